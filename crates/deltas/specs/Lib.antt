@@ -1,0 +1,11 @@
+pub mod Instructions
+pub mod Refusals
+pub mod Check
+pub mod Origins
+pub mod Normal
+pub mod Combine
+pub mod Replace
+pub mod Outcomes
+pub mod Laws
+pub mod Examples
+pub mod Steps

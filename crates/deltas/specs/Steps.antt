@@ -1,0 +1,52 @@
+use mathlib.Core.Path.{_≡_}
+use mathlib.Core.List.{List, [], _∷_, _++_}
+use Prim.Native.Nat.{ℕ, _+_, _≤_, _<_}
+use lib.ListN.{length, take, getD}
+use Rattle.std.specs.shelf.Lists.{All}
+use Rattle.deltas.specs.declared.instruction.Instruction.{Instruction}
+use Rattle.deltas.specs.declared.instruction.Op.{Op}
+use Rattle.deltas.specs.declared.instruction.Op.the-variants.{Copy, Insert}
+use Rattle.deltas.specs.declared.write.Written.{Written}
+use Rattle.deltas.specs.Instructions.{blank-instruction}
+use Rattle.deltas.specs.Origins.{Origin, inserts}
+use Rattle.deltas.specs.Normal.{runs-after}
+
+-- What the inner functions ask and leave, on the way to the contracts of the public ones.
+
+-- the places that some instructions give
+abbrev pub total : List Instruction → ℕ
+total [] = 0
+total (i ∷ is) = i .length + total is
+
+-- n units at p lie in a source of s units, or in m inserted units
+abbrev pub Inside : ℕ → ℕ → Op → ℕ → ℕ → Type 0
+Inside s m Copy p n = p + n ≤ s
+Inside s m Insert p n = p + n ≤ m
+
+-- an instruction that takes some units, all of them inside
+abbrev pub Fits : ℕ → ℕ → Instruction → Type 0
+Fits s m i = (0 < i .length) × Inside s m (i .op) (i .from) (i .length)
+
+-- room for n places more behind what is written of two output tables, and numbers of 16 bits for them
+pub record Space {U : Type 0} (out : List Instruction) (us : List U) (w : Written) (n : ℕ) : Type 0 where
+  pub instructions : w .instructions + n ≤ length out
+  pub inserted : w .inserted + n ≤ length us
+  pub places : total (take (w .instructions) out) + n ≤ 65535
+  pub numbers : w .inserted + n ≤ 65535
+
+-- the runs of some origins were written behind what there was of two output tables, joined to its last run
+pub record Appended {U : Type 0} (os : List (Origin U)) (out : List Instruction) (us : List U) (w : Written) (out′ : List Instruction) (us′ : List U) (w′ : Written) : Type 0 where
+  pub instructions : take (w′ .instructions) out′ ≡ runs-after (take (w .instructions) out) (w .inserted) os
+  pub units : take (w′ .inserted) us′ ≡ take (w .inserted) us ++ inserts os
+  pub count : w′ .instructions ≤ w .instructions + length os
+  pub inserted : w′ .inserted ≡ w .inserted + length (inserts os)
+
+-- the first place that the instruction at an index gives
+abbrev pub Standing : List Instruction → ℕ → ℕ → Type 0
+Standing is index place = (index ≤ length is) × (place ≡ total (take index is))
+
+-- a place is the one at an offset inside the instruction at an index
+pub record Located (is : List Instruction) (place index offset : ℕ) : Type 0 where
+  pub within : index < length is
+  pub inside : offset < getD is index blank-instruction .length
+  pub at : place ≡ total (take index is) + offset
