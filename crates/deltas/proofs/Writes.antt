@@ -129,3 +129,8 @@ inside-insert s m p n o e h = subst (λ q. Inside s m q p n) e h
 
 pub inside-copy : (s m p n : ℕ) (o : Op) → o ≡ Copy → Inside s m o p n → p + n ≤ s
 inside-copy s m p n o e h = subst (λ q. Inside s m q p n) e h
+
+-- room for fewer places
+pub space-less : {U : Type 0} (out : List Instruction) (us : List U) (w : Written) (n m : ℕ) → m ≤ n → Space out us w n → Space out us w m
+space-less out us w n m l s =
+    record { instructions = omega (arith, s .instructions); inserted = omega (arith, s .inserted); places = omega (arith, s .places); numbers = omega (arith, s .numbers) }

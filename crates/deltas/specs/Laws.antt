@@ -33,9 +33,10 @@ pub record One-normal-form (U : Type 0) : Type 0 where
 abbrev pub Fewest : Type 0 → Type 0
 Fewest U = (a b : Parts U) → Normal a → Lawful b → origins-of a ≡ origins-of b → a .head .instructions ≤ b .head .instructions
 
--- what is combined is a normal delta over the earlier source, with the origins of both taken together
+-- what is combined is a normal delta over the earlier source, with the origins of both taken together; it has no more
+-- instructions and units than its target, whose length is a number of 16 bits, as in every head
 pub record Combined-is-normal (U : Type 0) : Type 0 where
-  pub is-normal : (a b : Parts U) → Lawful a → Lawful b → Meet a b → Normal (combined a b)
+  pub is-normal : (a b : Parts U) → Lawful a → Lawful b → Meet a b → b .head .target ≤ 65535 → Normal (combined a b)
   pub has-origins : (a b : Parts U) → origins-of (combined a b) ≡ combined-origins a b
 
 -- combining is associative

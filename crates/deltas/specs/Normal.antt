@@ -1,6 +1,6 @@
 use mathlib.Core.Path.{_≡_}
 use mathlib.Core.List.{List, [], _∷_}
-use mathlib.Core.Bool.{cond}
+use mathlib.Core.Bool.{Bool, true, cond, not, _&&_}
 use Prim.Native.Nat.{ℕ, suc, _+_}
 use lib.ListN.{length}
 use Rattle.deltas.specs.declared.instruction.Instruction.{Instruction}
@@ -24,6 +24,13 @@ abbrev pub Longest : List Instruction → Type 0
 Longest [] = Unit {0}
 Longest (a ∷ []) = Unit {0}
 Longest (a ∷ b ∷ is) = Apart (a .op) (a .from + a .length) (b .op) (b .from) × Longest (b ∷ is)
+
+-- the test of it, which decides it for the instructions of a lawful delta: no neighbour goes on where the one before
+-- it ends
+abbrev pub all-apart : List Instruction → Bool
+all-apart [] = true
+all-apart (a ∷ []) = true
+all-apart (a ∷ b ∷ is) = not (goes-on a b) && all-apart (b ∷ is)
 
 -- a lawful delta, each instruction of which is one longest run
 abbrev pub Normal : {U : Type 0} → Parts U → Type 0

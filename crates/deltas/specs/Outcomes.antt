@@ -6,6 +6,7 @@ use lib.ListN.{length, replicate}
 use Rattle.std.specs.declared.result.Result.{Result}
 use Rattle.std.specs.declared.result.Result.the-variants.{Ok, Err}
 use Rattle.deltas.specs.declared.delta.Head.{Head}
+use Rattle.deltas.specs.declared.fault.DeltaFault.{DeltaFault}
 use Rattle.deltas.specs.declared.fault.PairFault.{PairFault}
 use Rattle.deltas.specs.declared.fault.PairFault.the-variants as pair
 use Rattle.deltas.specs.declared.fault.NormalFault.{NormalFault}
@@ -28,22 +29,31 @@ abbrev pub left-in : {E A : Type 0} → Result Head E → List A → List A → 
 left-in (Ok h) before entries blank = entries ++ replicate (length before - length entries) blank
 left-in (Err f) before entries blank = before
 
+-- the answer of a call, once its delta passed the check
+abbrev pub after-check : Result Head DeltaFault → Result Head NormalFault → Result Head NormalFault
+after-check (Ok h) r = r
+after-check (Err f) r = Err (norm.Unlawful f)
+
 -- normalise: the normal delta's head; refused if the delta is not lawful, then if an output table has fewer entries
 -- than the target length
 abbrev pub normal-answer : {U : Type 0} → Parts U → ℕ → ℕ → Result Head NormalFault
 normal-answer d i u =
-    elim (checked d)
-    [ Ok h ↦ cond (short (d .head .target) i u) (Err (norm.Short (d .head .target))) (Ok (normal-head (d .head .source) (origins-of d)))
-    | Err f ↦ Err (norm.Unlawful f) ]
+    after-check (checked d)
+    (cond (short (d .head .target) i u) (Err (norm.Short (d .head .target)))
+    (Ok (normal-head (d .head .source) (origins-of d))))
+
+-- the answer of a call, once the earlier and then the later delta passed the check
+abbrev pub after-checks : Result Head DeltaFault → Result Head DeltaFault → Result Head PairFault → Result Head PairFault
+after-checks (Ok g) (Ok h) r = r
+after-checks (Ok g) (Err f) r = Err (pair.Unsound Later f)
+after-checks (Err f) x r = Err (pair.Unsound Earlier f)
 
 -- combine: the combined delta's head; refused if the earlier delta is not lawful, then if the later is not, then if
 -- they do not meet, then if an output table has fewer entries than the later target length
 abbrev pub combine-answer : {U : Type 0} → Parts U → Parts U → ℕ → ℕ → Result Head PairFault
 combine-answer a b i u =
-    elim (checked a)
-    [ Err f ↦ Err (pair.Unsound Earlier f)
-    | Ok g ↦ elim (checked b)
-      [ Err f ↦ Err (pair.Unsound Later f)
-      | Ok h ↦ cond (eqb (a .head .target) (b .head .source))
-        (cond (short (b .head .target) i u) (Err (pair.Short (b .head .target))) (Ok (normal-head (a .head .source) (combined-origins a b))))
-        (Err (pair.Lengths (b .head .source))) ] ]
+    after-checks (checked a) (checked b)
+    (cond (eqb (a .head .target) (b .head .source))
+    (cond (short (b .head .target) i u) (Err (pair.Short (b .head .target)))
+    (Ok (normal-head (a .head .source) (combined-origins a b))))
+    (Err (pair.Lengths (b .head .source))))

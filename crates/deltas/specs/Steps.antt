@@ -27,6 +27,10 @@ Inside s m Insert p n = p + n ≤ m
 abbrev pub Fits : ℕ → ℕ → Instruction → Type 0
 Fits s m i = (0 < i .length) × Inside s m (i .op) (i .from) (i .length)
 
+-- the state of two output tables of which nothing is written yet
+abbrev pub nothing-written : Written
+nothing-written = record { instructions = 0; inserted = 0 }
+
 -- room for n places more behind what is written of two output tables, and numbers of 16 bits for them
 pub record Space {U : Type 0} (out : List Instruction) (us : List U) (w : Written) (n : ℕ) : Type 0 where
   pub instructions : w .instructions + n ≤ length out
@@ -45,8 +49,12 @@ pub record Appended {U : Type 0} (os : List (Origin U)) (out : List Instruction)
 abbrev pub Standing : List Instruction → ℕ → ℕ → Type 0
 Standing is index place = (index ≤ length is) × (place ≡ total (take index is))
 
+-- the place at an offset inside the instruction at an index
+abbrev pub place-at : List Instruction → ℕ → ℕ → ℕ
+place-at is index offset = total (take index is) + offset
+
 -- a place is the one at an offset inside the instruction at an index
 pub record Located (is : List Instruction) (place index offset : ℕ) : Type 0 where
   pub within : index < length is
   pub inside : offset < getD is index blank-instruction .length
-  pub at : place ≡ total (take index is) + offset
+  pub at : place ≡ place-at is index offset

@@ -26,13 +26,15 @@ pub struct Refusal {
 
 pub impl fmt::Display for Layer as LayerDisplay {
     fn fmt<W: fmt::Write>(&self, f: &mut fmt::Formatter<W>) -> fmt::Result {
-        f.write_str(match self {
-            Layer::Frame => "frame",
-            Layer::Delta => "delta",
-            Layer::Pair => "pair",
-            Layer::Ground => "ground",
-            Layer::Chain => "chain",
-        })
+        f.write_str(
+            match self {
+                Layer::Frame => "frame",
+                Layer::Delta => "delta",
+                Layer::Pair => "pair",
+                Layer::Ground => "ground",
+                Layer::Chain => "chain",
+            },
+        )
     }
 }
 

@@ -1,0 +1,112 @@
+-- What the calls that write a delta into two output tables answer, and what they leave there.
+use mathlib.Core.Path.{_≡_, refl, sym, ap, subst, _∙_}
+use mathlib.Core.List.{List, [], _∷_, _++_, map}
+use mathlib.Core.Bool.{true, false, cond, _||_}
+use mathlib.Core.Logic.{_⊎_, inl, inr}
+use Prim.Native.Nat.{ℕ, _+_, _-_, _≤_, _<_}
+use native.Mathlib.Nat.{sub-zero}
+use native.Mathlib.Omega.{arith}
+use lib.Dec.{eqb, ltb}
+use lib.ListN.{length, take, drop, replicate}
+use Rattle.std.proofs.shelf.Ways.{tells}
+use Rattle.std.proofs.shelf.Lists.{length-take, length-take-le, length-map}
+use Rattle.std.proofs.shelf.Elements.{all-weaker}
+use Rattle.std.specs.shelf.Lists.{All}
+use Rattle.std.specs.declared.result.Result.{Result}
+use Rattle.std.specs.declared.result.Result.the-variants.{Ok, Err}
+use Rattle.deltas.specs.declared.instruction.Instruction.{Instruction}
+use Rattle.deltas.specs.declared.instruction.Op.{Op}
+use Rattle.deltas.specs.declared.instruction.Op.the-variants.{Copy, Insert}
+use Rattle.deltas.specs.declared.delta.Head.{Head}
+use Rattle.deltas.specs.declared.write.Written.{Written}
+use Rattle.deltas.specs.declared.fault.PairFault.{PairFault}
+use Rattle.deltas.specs.declared.fault.PairFault.the-variants as pair
+use Rattle.deltas.specs.Check.{Parts, checked, Lawful, instructions-of, units-of}
+use Rattle.deltas.specs.Origins.{Origin, origins, origins-of, inserts}
+use Rattle.deltas.specs.Normal.{runs, normal-head}
+use Rattle.deltas.specs.Combine.{Meet, origin-through, through, combined-origins}
+use Rattle.deltas.specs.Outcomes.{short, combine-answer}
+use Rattle.deltas.specs.Steps.{total, nothing-written, Inside, Fits, Space, Appended}
+use Rattle.deltas.proofs.Runs.{length-inserts}
+use Rattle.deltas.proofs.Sound.{Passed, passed, passed-any, lawful-fits, length-origins}
+
+-- two output tables from their first entries on: the runs and the units of some origins, and nothing else is counted
+pub record Whole {U : Type 0} (os : List (Origin U)) (out : List Instruction) (us : List U) (w : Written) : Type 0 where
+  pub instructions : take (w .instructions) out ≡ runs os
+  pub units : take (w .inserted) us ≡ inserts os
+  pub count : w .instructions ≡ length (runs os)
+  pub inserted : w .inserted ≡ length (inserts os)
+  pub fits-out : w .instructions ≤ length out
+  pub fits-units : w .inserted ≤ length us
+
+pub whole : {U : Type 0} (os : List (Origin U)) (out out′ : List Instruction) (us us′ : List U) (w : Written) → Appended os out us nothing-written out′ us′ w → length os ≤ length out′ → length os ≤ length us′ → Whole os out′ us′ w
+whole os out out′ us us′ w a i u =
+    let n : w .instructions ≤ length out′ = omega (arith, a .count) in
+    let m : w .inserted ≤ length us′ = omega (arith, a .inserted, length-inserts os) in
+    record { instructions = a .instructions
+           ; units = a .units
+           ; count = sym (length-take-le (w .instructions) out′ n) ∙ ap length (a .instructions)
+           ; inserted = sym (length-take-le (w .inserted) us′ m) ∙ ap length (a .units)
+           ; fits-out = n
+           ; fits-units = m }
+
+-- the entries that were written and blanks behind them
+pub filled : {X : Type 0} (before after entries : List X) (n : ℕ) (b : X) → take n after ≡ entries → n ≡ length entries → length after ≡ length before → take n after ++ replicate (length after - n) b ≡ entries ++ replicate (length before - length entries) b
+filled before after entries n b e k l =
+    let m : length after - n ≡ length before - length entries = omega arith in
+    ap (λ xs. xs ++ replicate (length after - n) b) e ∙ ap (λ j. entries ++ replicate j b) m
+
+inside-more : (s t m : ℕ) (o : Op) (p n : ℕ) → s ≤ t → Inside s m o p n → Inside t m o p n
+inside-more s t m Copy p n l h = omega arith
+inside-more s t m Insert p n l h = h
+
+-- the instructions of a lawful delta fit its source, and its own units, as a function is handed them
+pub ready : {U : Type 0} (d : Parts U) (s : ℕ) → Lawful d → d .head .source ≤ s → All (Fits s (length (take (d .head .inserted - 0) (d .units)))) (take (d .head .instructions - 0) (d .table))
+ready d s l h =
+    let p = passed d l in
+    let m : d .head .inserted ≡ length (units-of d) = sym (length-take-le (d .head .inserted) (d .units) (p .inserted)) in
+    simp sub-zero
+    (subst (λ k. All (Fits s k) (instructions-of d)) m
+    (all-weaker (Fits (d .head .source) (d .head .inserted)) (Fits s (d .head .inserted)) (λ i f. (f .0, inside-more (d .head .source) s (d .head .inserted) (i .op) (i .from) (i .length) h (f .1))) (instructions-of d) (lawful-fits d l)))
+
+-- and give as many places as its target has
+pub ready-total : {U : Type 0} (d : Parts U) → Lawful d → total (take (d .head .instructions - 0) (d .table)) ≡ d .head .target
+ready-total d l = simp sub-zero (passed d l .target)
+
+pub ready-few : {U : Type 0} (d : Parts U) → Lawful d → length (take (d .head .inserted - 0) (d .units)) ≤ 65535
+ready-few d l = omega (arith, length-take (d .head .inserted - 0) (d .units), passed d l .small)
+
+-- the origins of a delta, as a function is handed it
+pub handed-origins : {U : Type 0} (d : Parts U) → origins (take (d .head .inserted - 0) (d .units)) (take (d .head .instructions - 0) (d .table)) ≡ origins-of d
+handed-origins d = simp sub-zero
+
+pub length-origins-of : {U : Type 0} (d : Parts U) → Lawful d → length (origins-of d) ≡ d .head .target
+length-origins-of d l =
+    let p = passed d l in
+    let m : d .head .inserted ≤ length (units-of d) = omega (arith, length-take (d .head .inserted) (d .units), p .inserted) in
+    length-origins (d .head .source) (d .head .inserted) (units-of d) (instructions-of d) (lawful-fits d l) m ∙ p .target
+
+pub length-combined : {U : Type 0} (a b : Parts U) → Lawful b → length (combined-origins a b) ≡ b .head .target
+length-combined a b l = length-map (origins-of b) (origin-through (origins-of a)) ∙ length-origins-of b l
+
+-- the answers of combine, one after another
+module _ {U : Type 0} (a b : Parts U) (i u : ℕ) (g h : Head) (p : Ok g ≡ checked a) (q : Ok h ≡ checked b) where
+  pub answer-lengths : (a .head .target ≡ b .head .source → ⊥) → Err (pair.Lengths (b .head .source)) ≡ combine-answer a b i u
+  answer-lengths n = rw (← p, ← q) (grind (arith, tells))
+
+  pub answer-short : a .head .target ≡ b .head .source → (i < b .head .target) ⊎ (u < b .head .target) → Err (pair.Short (b .head .target)) ≡ combine-answer a b i u
+  answer-short e s = rw (← p, ← q) (grind (arith, tells))
+
+  pub answer-ok : a .head .target ≡ b .head .source → b .head .target ≤ i → b .head .target ≤ u → Ok (normal-head (a .head .source) (combined-origins a b)) ≡ combine-answer a b i u
+  answer-ok e x y = rw (← p, ← q) (grind (arith, tells))
+
+-- a head with the lengths and counts of the normal delta is its head
+pub head-is : {U : Type 0} (os : List (Origin U)) (s t i n : ℕ) → t ≡ length os → i ≡ length (runs os) → n ≡ length (inserts os) → _≡_ {A = Head} (record { source = s; target = t; instructions = i; inserted = n }) (normal-head s os)
+head-is os s t i n e f k j = record { source = s; target = e j; instructions = f j; inserted = k j }
+
+-- what combining wrote, as it is handed the two deltas
+pub combine-whole : {U : Type 0} (a b : Parts U) (out out′ : List Instruction) (us us′ : List U) (w : Written) → Lawful b → Appended (through (origins (take (a .head .inserted - 0) (a .units)) (take (a .head .instructions - 0) (a .table))) (origins (take (b .head .inserted - 0) (b .units)) (take (b .head .instructions - 0) (b .table)))) out us nothing-written out′ us′ w → b .head .target ≤ length out′ → b .head .target ≤ length us′ → Whole (combined-origins a b) out′ us′ w
+combine-whole a b out out′ us us′ w l h i u =
+    let n = length-combined a b l in
+    let e = ap (λ es. through es (origins (take (b .head .inserted - 0) (b .units)) (take (b .head .instructions - 0) (b .table)))) (handed-origins a) ∙ ap (through (origins-of a)) (handed-origins b) in
+    whole (combined-origins a b) out out′ us us′ w (subst (λ os. Appended os out us nothing-written out′ us′ w) e h) (omega arith) (omega arith)

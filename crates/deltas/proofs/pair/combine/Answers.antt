@@ -1,0 +1,53 @@
+use mathlib.Core.Path.{_≡_, sym, _∙_, ap, subst}
+use Prim.Native.Nat.{_+_, _-_, _≤_}
+use native.Mathlib.Omega.{arith}
+use lib.ListN.{length, take, replicate}
+use mathlib.Core.List.{_++_}
+use Rattle.deltas.specs.Instructions.{blank-instruction}
+use Rattle.deltas.specs.declared.delta.Head.{Head}
+use Rattle.deltas.specs.Check.{parts-of, Lawful}
+use Rattle.deltas.specs.Origins.{origins, inserts}
+use Rattle.deltas.specs.Normal.{runs, normal-head}
+use Rattle.deltas.specs.Combine.{through, combined-origins}
+use Rattle.deltas.specs.Steps.{total, nothing-written, Fits, Appended}
+use Rattle.std.specs.shelf.Lists.{All}
+use Rattle.std.specs.declared.result.Result.the-variants.{Ok, Err}
+use Rattle.deltas.proofs.Sound.{passed-any}
+use Rattle.deltas.proofs.Outputs.{Whole, whole, filled, ready, ready-total, ready-few, handed-origins, length-combined, combine-whole, head-is, answer-ok}
+use Rattle.deltas.proofs.pair.combine.Needs as need
+
+pub write-combined-written-requires : need.write-combined-written-requires
+write-combined-written-requires g c κs =
+    let a = parts-of (c .args .earlier .now) in
+    let b = parts-of (c .args .later .now) in
+    let la = passed-any a _ (sym (c .in-Ok .ensures tt)) in
+    let lb = passed-any b _ (sym (c .in-Ok-check .ensures tt)) in
+    let t = ready-total b lb in
+    record { earlier = ready a 65535 la (grind arith)
+           ; few = ready-few a la
+           ; later = subst (λ n. All (Fits n (length (take (b .head .inserted - 0) (b .units)))) (take (b .head .instructions - 0) (b .table))) (sym (c .if-first-second .left) ∙ sym (ready-total a la)) (ready b (b .head .source) lb (omega arith))
+           ; space = record { instructions = omega arith; inserted = omega arith; places = omega arith; numbers = omega arith } }
+
+pub blank-rest-requires : need.blank-rest-requires
+blank-rest-requires g c κs =
+    let lb = passed-any (parts-of (c .args .later .now)) _ (sym (c .in-Ok-check .ensures tt)) in
+    combine-whole (parts-of (c .args .earlier .now)) (parts-of (c .args .later .now)) (c .args .out-instructions .now) (c .write-combined-written .last .out) (c .args .out-units .now) (c .write-combined-written .last .units) (c .write-combined-written .result) lb (c .write-combined-written .ensures) (omega arith) (omega arith) .fits-out
+
+pub blank-rest-requires-2 : need.blank-rest-requires-2
+blank-rest-requires-2 g c κs =
+    let lb = passed-any (parts-of (c .args .later .now)) _ (sym (c .in-Ok-check .ensures tt)) in
+    combine-whole (parts-of (c .args .earlier .now)) (parts-of (c .args .later .now)) (c .args .out-instructions .now) (c .write-combined-written .last .out) (c .args .out-units .now) (c .write-combined-written .last .units) (c .write-combined-written .result) lb (c .write-combined-written .ensures) (omega arith) (omega arith) .fits-units
+
+pub returns : need.returns
+returns g c =
+    let a = parts-of (c .args .earlier .now) in
+    let b = parts-of (c .args .later .now) in
+    let w = c .write-combined-written .result in
+    let out = c .write-combined-written .last .out in
+    let us = c .write-combined-written .last .units in
+    let lb = passed-any b _ (sym (c .in-Ok-check .ensures tt)) in
+    let done = combine-whole a b (c .args .out-instructions .now) out (c .args .out-units .now) us w lb (c .write-combined-written .ensures) (omega arith) (omega arith) in
+    record { answer = ap Ok (head-is (combined-origins a b) (a .head .source) (b .head .target) (w .instructions) (w .inserted) (sym (length-combined a b lb)) (done .count) (done .inserted))
+                      ∙ answer-ok a b (length (c .args .out-instructions .now)) (length (c .args .out-units .now)) _ _ (c .in-Ok .ensures tt) (c .in-Ok-check .ensures tt) (c .if-first-second .left) (omega arith) (omega arith)
+           ; instructions = c .blank-rest .ensures ∙ ap (λ x. take (w .instructions) out ++ replicate (length out - w .instructions) x) (c .blank .ensures) ∙ filled (c .args .out-instructions .now) out (runs (combined-origins a b)) (w .instructions) blank-instruction (done .instructions) (done .count) (omega arith)
+           ; units = c .blank-rest-2 .ensures ∙ ap (λ x. take (w .inserted) us ++ replicate (length us - w .inserted) x) (c .blank-2 .ensures) ∙ filled (c .args .out-units .now) us (inserts (combined-origins a b)) (w .inserted) (g .U·Unit .blank) (done .units) (done .inserted) (omega arith) }

@@ -1,0 +1,3 @@
+pub mod BigEndians
+pub mod CashflowLaws
+pub mod Runs
