@@ -19,13 +19,13 @@ use Rattle.deltas.specs.declared.instruction.Op.{Op}
 use Rattle.deltas.specs.declared.instruction.Op.the-variants.{Copy, Insert}
 use Rattle.deltas.specs.declared.delta.Head.{Head}
 use Rattle.deltas.specs.declared.write.Written.{Written}
-use Rattle.deltas.specs.declared.fault.PairFault.{PairFault}
+use Rattle.deltas.specs.declared.fault.NormalFault.the-variants as norm
 use Rattle.deltas.specs.declared.fault.PairFault.the-variants as pair
-use Rattle.deltas.specs.Check.{Parts, checked, Lawful, instructions-of, units-of}
+use Rattle.deltas.specs.Check.{head, Parts, checked, Lawful, instructions-of, units-of}
 use Rattle.deltas.specs.Origins.{Origin, origins, origins-of, inserts}
 use Rattle.deltas.specs.Normal.{runs, normal-head}
 use Rattle.deltas.specs.Combine.{Meet, origin-through, through, combined-origins}
-use Rattle.deltas.specs.Outcomes.{short, combine-answer}
+use Rattle.deltas.specs.Outcomes.{combine-answer, normal-answer}
 use Rattle.deltas.specs.Steps.{total, nothing-written, Inside, Fits, Space, Appended}
 use Rattle.deltas.proofs.Runs.{length-inserts}
 use Rattle.deltas.proofs.Sound.{Passed, passed, passed-any, lawful-fits, length-origins}
@@ -101,8 +101,8 @@ module _ {U : Type 0} (a b : Parts U) (i u : ℕ) (g h : Head) (p : Ok g ≡ che
   answer-ok e x y = rw (← p, ← q) (grind (arith, tells))
 
 -- a head with the lengths and counts of the normal delta is its head
-pub head-is : {U : Type 0} (os : List (Origin U)) (s t i n : ℕ) → t ≡ length os → i ≡ length (runs os) → n ≡ length (inserts os) → _≡_ {A = Head} (record { source = s; target = t; instructions = i; inserted = n }) (normal-head s os)
-head-is os s t i n e f k j = record { source = s; target = e j; instructions = f j; inserted = k j }
+pub head-is : {U : Type 0} (os : List (Origin U)) (s t i n : ℕ) → t ≡ length os → i ≡ length (runs os) → n ≡ length (inserts os) → head s t i n ≡ normal-head s os
+head-is os s t i n e f k = ap (λ x. head s x i n) e ∙ ap (λ x. head s (length os) x n) f ∙ ap (λ x. head s (length os) (length (runs os)) x) k
 
 -- what combining wrote, as it is handed the two deltas
 pub combine-whole : {U : Type 0} (a b : Parts U) (out out′ : List Instruction) (us us′ : List U) (w : Written) → Lawful b → Appended (through (origins (take (a .head .inserted - 0) (a .units)) (take (a .head .instructions - 0) (a .table))) (origins (take (b .head .inserted - 0) (b .units)) (take (b .head .instructions - 0) (b .table)))) out us nothing-written out′ us′ w → b .head .target ≤ length out′ → b .head .target ≤ length us′ → Whole (combined-origins a b) out′ us′ w
@@ -110,3 +110,17 @@ combine-whole a b out out′ us us′ w l h i u =
     let n = length-combined a b l in
     let e = ap (λ es. through es (origins (take (b .head .inserted - 0) (b .units)) (take (b .head .instructions - 0) (b .table)))) (handed-origins a) ∙ ap (through (origins-of a)) (handed-origins b) in
     whole (combined-origins a b) out out′ us us′ w (subst (λ os. Appended os out us nothing-written out′ us′ w) e h) (omega arith) (omega arith)
+
+-- the answers of normalise, one after another
+module _ {U : Type 0} (d : Parts U) (i u : ℕ) (h : Head) (p : Ok h ≡ checked d) where
+  pub normal-short : (i < d .head .target) ⊎ (u < d .head .target) → Err (norm.Short (d .head .target)) ≡ normal-answer d i u
+  normal-short s = rw (← p) (grind (arith, tells))
+
+  pub normal-ok : d .head .target ≤ i → d .head .target ≤ u → Ok (normal-head (d .head .source) (origins-of d)) ≡ normal-answer d i u
+  normal-ok x y = rw (← p) (grind (arith, tells))
+
+-- what normalising wrote, as it is handed the delta
+pub normal-whole : {U : Type 0} (d : Parts U) (out out′ : List Instruction) (us us′ : List U) (w : Written) → Lawful d → Appended (origins (take (d .head .inserted - 0) (d .units)) (take (d .head .instructions - 0) (d .table))) out us nothing-written out′ us′ w → d .head .target ≤ length out′ → d .head .target ≤ length us′ → Whole (origins-of d) out′ us′ w
+normal-whole d out out′ us us′ w l h i u =
+    let n = length-origins-of d l in
+    whole (origins-of d) out out′ us us′ w (subst (λ os. Appended os out us nothing-written out′ us′ w) (handed-origins d) h) (omega arith) (omega arith)

@@ -1,18 +1,20 @@
 -- The places that instructions give, one by one.
-use mathlib.Core.Path.{_≡_, refl, sym, ap, subst, _∙_}
+use mathlib.Core.Path.{_≡_, refl, sym, ap, _∙_}
 use mathlib.Core.List.{List, [], _∷_, _++_, map}
+use mathlib.Core.Bool.{Bool, true, not, _&&_}
 use Prim.Native.Nat.{ℕ, zero, suc, _+_, _-_, _≤_, _<_}
 use native.Mathlib.Omega.{arith}
 use lib.ListN.{length, take, drop, getD}
 use lib.Seq.{take-append-le, drop-append-le, drop-append-add, take-add}
-use Rattle.std.proofs.shelf.Lists.{take-more, take-all, take-take, drop-take, drop-drop, take-map, drop-map, length-take, length-drop, length-map, length-append, drop-at}
+use Rattle.std.proofs.shelf.Lists.{take-more, take-take, drop-take, drop-drop, take-map, drop-map, length-drop}
 use Rattle.std.proofs.shelf.Elements.{all-getD}
 use Rattle.std.specs.shelf.Lists.{All}
 use Rattle.deltas.specs.declared.instruction.Instruction.{Instruction}
 use Rattle.deltas.specs.declared.instruction.Op.{Op}
 use Rattle.deltas.specs.declared.instruction.Op.the-variants.{Copy, Insert}
-use Rattle.deltas.specs.Instructions.{instruction, blank-instruction}
-use Rattle.deltas.specs.Origins.{Origin, copied, inserted, copies, given, piece, origins}
+use Rattle.deltas.specs.Instructions.{instruction, blank-instruction, goes-on}
+use Rattle.deltas.specs.Normal.{all-apart}
+use Rattle.deltas.specs.Origins.{copied, inserted, copies, given, piece, origins}
 use Rattle.deltas.specs.Steps.{total, Inside, Fits, place-at, Located}
 use Rattle.deltas.proofs.Runs.{total-append}
 use Rattle.deltas.proofs.Sound.{length-piece}
@@ -114,3 +116,21 @@ fits-cut s m i k j p l h = (p, inside-cut s m (i .op) (i .from) (i .length) k j 
 -- some places, and some more
 pub taken-more : {X : Type 0} (xs : List X) (p k n : ℕ) → take k (drop p xs) ++ take n (drop (p + k) xs) ≡ take (k + n) (drop p xs)
 taken-more xs p k n = ap (λ ys. take k (drop p xs) ++ take n ys) (sym (drop-drop k p xs)) ∙ sym (take-add k n (drop p xs))
+
+-- fewer than two instructions are apart
+pub apart-few : (is : List Instruction) → length is < 2 → all-apart is ≡ true
+apart-few [] h = refl
+apart-few (a ∷ []) h = refl
+apart-few (a ∷ b ∷ is) h = absurd (omega arith)
+
+-- the first two of the instructions, and the others
+apart-window : (is w : List Instruction) (n : ℕ) → n ≡ 2 → n ≤ length is → w ≡ take n is → all-apart is ≡ (not (goes-on (getD w 0 blank-instruction) (getD w 1 blank-instruction)) && all-apart (drop 1 is))
+apart-window [] w n e l q = absurd (omega arith)
+apart-window (a ∷ []) w n e l q = absurd (omega arith)
+apart-window (a ∷ b ∷ is) w n e l q =
+    let p : w ≡ a ∷ b ∷ [] = q ∙ ap (λ m. take m (a ∷ b ∷ is)) e in
+    ap (λ v. not (goes-on (getD v 0 blank-instruction) (getD v 1 blank-instruction)) && all-apart (b ∷ is)) (sym p)
+
+-- and one turn of the test: the first two go on, or only the others count
+pub apart-turn : (is w : List Instruction) (n : ℕ) (b : Bool) → n ≡ 2 → n ≤ length is → w ≡ take n is → b ≡ goes-on (getD w 0 blank-instruction) (getD w 1 blank-instruction) → all-apart is ≡ (not b && all-apart (drop 1 is))
+apart-turn is w n b e l q t = apart-window is w n e l q ∙ ap (λ x. not x && all-apart (drop 1 is)) (sym t)

@@ -15,6 +15,10 @@ use Rattle.deltas.specs.declared.delta.Delta.{Delta}
 use Rattle.deltas.specs.declared.fault.DeltaFault.{DeltaFault}
 use Rattle.deltas.specs.declared.fault.DeltaFault.the-variants.{Counts, EmptyInstruction, CopyPastSource, InsertMisplaced, TargetLength, InsertedCount}
 
+-- a head by its lengths and counts
+abbrev pub head : ℕ → ℕ → ℕ → ℕ → Head
+head s t i n = record { source = s; target = t; instructions = i; inserted = n }
+
 -- a delta by its values: its head, and all that its two tables hold
 pub record Parts (U : Type 0) : Type 0 where
   pub head : Head

@@ -11,14 +11,14 @@ use Rattle.deltas.specs.declared.delta.Head.{Head}
 use Rattle.deltas.specs.declared.fault.DeltaFault.{DeltaFault}
 use Rattle.deltas.specs.declared.fault.DeltaFault.the-variants.{CopyPastSource}
 use Rattle.deltas.specs.Instructions.{instruction}
-use Rattle.deltas.specs.Check.{Parts, parts, checked, Lawful}
+use Rattle.deltas.specs.Check.{head, Parts, parts, checked, Lawful}
 use Rattle.deltas.specs.Combine.{combined}
 
 -- Deltas over bytes, worked by hand.
 
 -- a delta from s to t bytes, with counts that are its tables' lengths
 abbrev pub delta : ℕ → ℕ → List Instruction → List ℕ → Parts ℕ
-delta s t is us = parts (record { source = s; target = t; instructions = length is; inserted = length us }) is us
+delta s t is us = parts (head s t (length is) (length us)) is us
 
 abbrev pub copy : ℕ → ℕ → Instruction
 copy p n = instruction Copy p n

@@ -8,7 +8,7 @@ use Rattle.deltas.specs.declared.instruction.Op.{Op}
 use Rattle.deltas.specs.declared.instruction.Op.the-variants.{Copy, Insert}
 use Rattle.deltas.specs.declared.delta.Head.{Head}
 use Rattle.deltas.specs.Instructions.{instruction, goes-on, longer}
-use Rattle.deltas.specs.Check.{Parts, parts, instructions-of, Lawful}
+use Rattle.deltas.specs.Check.{head, Parts, parts, instructions-of, Lawful}
 use Rattle.deltas.specs.Origins.{Origin, copied, inserted, inserts}
 
 -- two neighbouring instructions, the first of which ends before e, that are not of one run: not both inserts, and not
@@ -54,7 +54,7 @@ runs os = runs-after [] 0 os
 
 -- the normal delta over a source of s units with these origins
 abbrev pub normal-head : {U : Type 0} → ℕ → List (Origin U) → Head
-normal-head s os = record { source = s; target = length os; instructions = length (runs os); inserted = length (inserts os) }
+normal-head s os = head s (length os) (length (runs os)) (length (inserts os))
 
 abbrev pub normal : {U : Type 0} → ℕ → List (Origin U) → Parts U
 normal s os = parts (normal-head s os) (runs os) (inserts os)

@@ -7,6 +7,7 @@ mod fault;
 mod instruction;
 mod laws;
 mod locate;
+mod normalise;
 mod pair;
 mod write;
 

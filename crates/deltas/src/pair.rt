@@ -22,7 +22,7 @@ use crate::locate::locate;
 use crate::locate::splice;
 use crate::write::Written;
 use crate::write::append;
-use crate::write::blank_rest;
+use crate::write::finish;
 use units::Unit;
 
 // How far the combined delta is written, and where the last search in the earlier one ended.
@@ -111,9 +111,5 @@ pub fn combine<U: Unit>(earlier: &Delta<U>, later: &Delta<U>, out_instructions: 
         &later.instructions[0..second_count],
         &later.units[0..second_inserted],
     );
-    let instructions = written.instructions;
-    let inserted = written.inserted;
-    blank_rest(out_instructions, instructions, Instruction::blank());
-    blank_rest(out_units, inserted, U::blank());
-    Ok(Head { source: first.source, target: second.target, instructions, inserted })
+    Ok(finish(out_instructions, out_units, written, first.source, second.target))
 }

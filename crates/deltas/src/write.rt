@@ -3,9 +3,12 @@ ghost use mathlib.Core.Path.{_≡_};
 ghost use mathlib.Core.List.{_++_};
 ghost use Prim.Native.Nat.{_+_, _-_, _<_, _≤_};
 ghost use lib.ListN.{length, take, replicate};
+ghost use Rattle.deltas.specs.Check.{head};
+ghost use Rattle.deltas.specs.Instructions.{blank-instruction};
 ghost use Rattle.deltas.specs.Normal.{extend};
 ghost use Rattle.deltas.specs.Origins.{piece};
 ghost use Rattle.deltas.specs.Steps.{total, Fits, Space, Appended};
+use crate::delta::Head;
 use crate::instruction::Instruction;
 use crate::instruction::Op;
 use units::Unit;
@@ -62,7 +65,7 @@ pub(crate) fn append<U: Unit>(out: &mut [Instruction], units: &mut [U], at: Writ
 }
 
 // Blanks every entry of a table past the first `count`.
-pub(crate) fn blank_rest<T: Copy>(table: &mut [T], count: usize, blank: T)
+fn blank_rest<T: Copy>(table: &mut [T], count: usize, blank: T)
     requires { ⌜ count ≤ length (now table) ⌝ }
     ensures { λ _. ⌜ now (table .exit) ≡ take count (now (table .entry)) ++ replicate (length (now (table .entry)) - count) blank ⌝ }
 {
@@ -70,4 +73,19 @@ pub(crate) fn blank_rest<T: Copy>(table: &mut [T], count: usize, blank: T)
     for i in 0..rest {
         table[count + i] = blank;
     }
+}
+
+// Blanks what is not written of two output tables, and answers the head of the delta that is.
+pub(crate) fn finish<U: Unit>(out: &mut [Instruction], units: &mut [U], written: Written, source: u16, target: u16) -> Head
+    requires instructions { ⌜ written .instructions ≤ length (now out) ⌝ }
+    requires units { ⌜ written .inserted ≤ length (now units) ⌝ }
+    ensures head { λ r. ⌜ r ≡ head source target (written .instructions) (written .inserted) ⌝ }
+    ensures instructions { λ _. ⌜ now (out .exit) ≡ take (written .instructions) (now (out .entry)) ++ replicate (length (now (out .entry)) - written .instructions) blank-instruction ⌝ }
+    ensures units { λ _. ⌜ now (units .exit) ≡ take (written .inserted) (now (units .entry)) ++ replicate (length (now (units .entry)) - written .inserted) blank ⌝ }
+{
+    let instructions = written.instructions;
+    let inserted = written.inserted;
+    blank_rest(out, instructions, Instruction::blank());
+    blank_rest(units, inserted, U::blank());
+    Head { source, target, instructions, inserted }
 }

@@ -1,8 +1,7 @@
 use mathlib.Core.Path.{_≡_, sym, _∙_, ap, subst}
 use Prim.Native.Nat.{_+_, _-_, _≤_}
 use native.Mathlib.Omega.{arith}
-use lib.ListN.{length, take, replicate}
-use mathlib.Core.List.{_++_}
+use lib.ListN.{length, take}
 use Rattle.deltas.specs.Instructions.{blank-instruction}
 use Rattle.deltas.specs.declared.delta.Head.{Head}
 use Rattle.deltas.specs.Check.{parts-of, Lawful}
@@ -28,26 +27,23 @@ write-combined-written-requires g c κs =
            ; later = subst (λ n. All (Fits n (length (take (b .head .inserted - 0) (b .units)))) (take (b .head .instructions - 0) (b .table))) (sym (c .if-first-second .left) ∙ sym (ready-total a la)) (ready b (b .head .source) lb (omega arith))
            ; space = record { instructions = omega arith; inserted = omega arith; places = omega arith; numbers = omega arith } }
 
-pub blank-rest-requires : need.blank-rest-requires
-blank-rest-requires g c κs =
+pub finish-requires : need.finish-requires
+finish-requires g c κs =
     let lb = passed-any (parts-of (c .args .later .now)) _ (sym (c .in-Ok-check .ensures tt)) in
-    combine-whole (parts-of (c .args .earlier .now)) (parts-of (c .args .later .now)) (c .args .out-instructions .now) (c .write-combined-written .last .out) (c .args .out-units .now) (c .write-combined-written .last .units) (c .write-combined-written .result) lb (c .write-combined-written .ensures) (omega arith) (omega arith) .fits-out
-
-pub blank-rest-requires-2 : need.blank-rest-requires-2
-blank-rest-requires-2 g c κs =
-    let lb = passed-any (parts-of (c .args .later .now)) _ (sym (c .in-Ok-check .ensures tt)) in
-    combine-whole (parts-of (c .args .earlier .now)) (parts-of (c .args .later .now)) (c .args .out-instructions .now) (c .write-combined-written .last .out) (c .args .out-units .now) (c .write-combined-written .last .units) (c .write-combined-written .result) lb (c .write-combined-written .ensures) (omega arith) (omega arith) .fits-units
+    let done = combine-whole (parts-of (c .args .earlier .now)) (parts-of (c .args .later .now)) (c .args .out-instructions .now) (c .write-combined-written .last .out) (c .args .out-units .now) (c .write-combined-written .last .units) (c .write-combined-written .result) lb (c .write-combined-written .ensures) (omega arith) (omega arith) in
+    record { instructions = done .fits-out; units = done .fits-units }
 
 pub returns : need.returns
 returns g c =
     let a = parts-of (c .args .earlier .now) in
     let b = parts-of (c .args .later .now) in
+    let os = combined-origins a b in
     let w = c .write-combined-written .result in
     let out = c .write-combined-written .last .out in
     let us = c .write-combined-written .last .units in
     let lb = passed-any b _ (sym (c .in-Ok-check .ensures tt)) in
     let done = combine-whole a b (c .args .out-instructions .now) out (c .args .out-units .now) us w lb (c .write-combined-written .ensures) (omega arith) (omega arith) in
-    record { answer = ap Ok (head-is (combined-origins a b) (a .head .source) (b .head .target) (w .instructions) (w .inserted) (sym (length-combined a b lb)) (done .count) (done .inserted))
+    record { answer = ap Ok (c .finish .ensures .head ∙ head-is os (a .head .source) (b .head .target) (w .instructions) (w .inserted) (sym (length-combined a b lb)) (done .count) (done .inserted))
                       ∙ answer-ok a b (length (c .args .out-instructions .now)) (length (c .args .out-units .now)) _ _ (c .in-Ok .ensures tt) (c .in-Ok-check .ensures tt) (c .if-first-second .left) (omega arith) (omega arith)
-           ; instructions = c .blank-rest .ensures ∙ ap (λ x. take (w .instructions) out ++ replicate (length out - w .instructions) x) (c .blank .ensures) ∙ filled (c .args .out-instructions .now) out (runs (combined-origins a b)) (w .instructions) blank-instruction (done .instructions) (done .count) (omega arith)
-           ; units = c .blank-rest-2 .ensures ∙ ap (λ x. take (w .inserted) us ++ replicate (length us - w .inserted) x) (c .blank-2 .ensures) ∙ filled (c .args .out-units .now) us (inserts (combined-origins a b)) (w .inserted) (g .U·Unit .blank) (done .units) (done .inserted) (omega arith) }
+           ; instructions = c .finish .ensures .instructions ∙ filled (c .args .out-instructions .now) out (runs os) (w .instructions) blank-instruction (done .instructions) (done .count) (omega arith)
+           ; units = c .finish .ensures .units ∙ filled (c .args .out-units .now) us (inserts os) (w .inserted) (g .U·Unit .blank) (done .units) (done .inserted) (omega arith) }

@@ -1,0 +1,40 @@
+use mathlib.Core.Path.{_≡_, sym, _∙_, ap}
+use native.Mathlib.Omega.{arith}
+use lib.ListN.{length}
+use Rattle.std.specs.declared.result.Result.the-variants.{Ok}
+use Rattle.deltas.specs.Instructions.{blank-instruction}
+use Rattle.deltas.specs.Check.{parts-of}
+use Rattle.deltas.specs.Origins.{origins-of, inserts}
+use Rattle.deltas.specs.Normal.{runs}
+use Rattle.deltas.proofs.Sound.{passed-any}
+use Rattle.deltas.proofs.Outputs.{filled, ready, ready-total, length-origins-of, normal-whole, head-is, normal-ok}
+use Rattle.deltas.proofs.delta.Delta.normalise.Needs as need
+
+pub write-runs-written-requires : need.write-runs-written-requires
+write-runs-written-requires g c κs =
+    let d = parts-of (c .args .self .now) in
+    let lawful = passed-any d _ (sym (c .in-Continue-check .ensures tt)) in
+    let t = ready-total d lawful in
+    record { fits = ready d 65535 lawful (grind arith)
+           ; space = record { instructions = omega arith; inserted = omega arith; places = omega arith; numbers = omega arith } }
+
+pub finish-requires : need.finish-requires
+finish-requires g c κs =
+    let d = parts-of (c .args .self .now) in
+    let lawful = passed-any d _ (sym (c .in-Continue-check .ensures tt)) in
+    let done = normal-whole d (c .args .out-instructions .now) (c .write-runs-written .last .out) (c .args .out-units .now) (c .write-runs-written .last .units) (c .write-runs-written .result) lawful (c .write-runs-written .ensures) (omega arith) (omega arith) in
+    record { instructions = done .fits-out; units = done .fits-units }
+
+pub returns : need.returns
+returns g c =
+    let d = parts-of (c .args .self .now) in
+    let os = origins-of d in
+    let w = c .write-runs-written .result in
+    let out = c .write-runs-written .last .out in
+    let us = c .write-runs-written .last .units in
+    let lawful = passed-any d _ (sym (c .in-Continue-check .ensures tt)) in
+    let done = normal-whole d (c .args .out-instructions .now) out (c .args .out-units .now) us w lawful (c .write-runs-written .ensures) (omega arith) (omega arith) in
+    record { answer = ap Ok (c .finish .ensures .head ∙ head-is os (d .head .source) (d .head .target) (w .instructions) (w .inserted) (sym (length-origins-of d lawful)) (done .count) (done .inserted))
+                      ∙ normal-ok d (length (c .args .out-instructions .now)) (length (c .args .out-units .now)) _ (c .in-Continue-check .ensures tt) (omega arith) (omega arith)
+           ; instructions = c .finish .ensures .instructions ∙ filled (c .args .out-instructions .now) out (runs os) (w .instructions) blank-instruction (done .instructions) (done .count) (omega arith)
+           ; units = c .finish .ensures .units ∙ filled (c .args .out-units .now) us (inserts os) (w .inserted) (g .U·Unit .blank) (done .units) (done .inserted) (omega arith) }
