@@ -85,7 +85,7 @@ inserted-extend [] i = omega arith
 inserted-extend (a ∷ []) i =
     cond-both (goes-on a i) (longer a (i .length) ∷ []) (a ∷ i ∷ []) (λ js. inserted-in js ≡ inserted-by (a .op) (a .length) + 0 + inserted-by (i .op) (i .length))
     (λ e. let f = follows-facts (a .op) (a .from + a .length) (i .op) (i .from) e in
-        rw (f .0) (omega (arith, inserted-longer (a .op) (a .length) (i .length))))
+    rw (f .0) (omega (arith, inserted-longer (a .op) (a .length) (i .length))))
     (λ e. omega arith)
 inserted-extend (a ∷ b ∷ is) i = omega (arith, inserted-extend (b ∷ is) i)
 
@@ -95,7 +95,7 @@ sound-extend s k (a ∷ []) i h l p =
     let q : Placed s (k + inserted-by (a .op) (a .length)) (i .op) (i .from) (i .length) = rw add-zero at p in
     cond-both (goes-on a i) (longer a (i .length) ∷ []) (a ∷ i ∷ []) (λ js. Sound s k js)
     (λ e. let f = follows-facts (a .op) (a .from + a .length) (i .op) (i .from) e in
-        (omega arith, placed-longer s k (a .op) (a .from) (a .length) (i .length) (h .1) (rw (f .0, f .1) at q), tt))
+    (omega arith, placed-longer s k (a .op) (a .from) (a .length) (i .length) (h .1) (rw (f .0, f .1) at q), tt))
     (λ e. (h .0, h .1, (l, q, tt)))
 sound-extend s k (a ∷ b ∷ is) i h l p =
     let e : k + inserted-in (a ∷ b ∷ is) ≡ k + inserted-by (a .op) (a .length) + inserted-in (b ∷ is) = omega arith in

@@ -43,12 +43,14 @@ pub whole : {U : Type 0} (os : List (Origin U)) (out out′ : List Instruction) 
 whole os out out′ us us′ w a i u =
     let n : w .instructions ≤ length out′ = omega (arith, a .count) in
     let m : w .inserted ≤ length us′ = omega (arith, a .inserted, length-inserts os) in
-    record { instructions = a .instructions
-           ; units = a .units
-           ; count = sym (length-take-le (w .instructions) out′ n) ∙ ap length (a .instructions)
-           ; inserted = sym (length-take-le (w .inserted) us′ m) ∙ ap length (a .units)
-           ; fits-out = n
-           ; fits-units = m }
+    record {
+      instructions = a .instructions;
+      units = a .units;
+      count = sym (length-take-le (w .instructions) out′ n) ∙ ap length (a .instructions);
+      inserted = sym (length-take-le (w .inserted) us′ m) ∙ ap length (a .units);
+      fits-out = n;
+      fits-units = m;
+    }
 
 -- the entries that were written and blanks behind them
 pub filled : {X : Type 0} (before after entries : List X) (n : ℕ) (b : X) → take n after ≡ entries → n ≡ length entries → length after ≡ length before → take n after ++ replicate (length after - n) b ≡ entries ++ replicate (length before - length entries) b

@@ -12,7 +12,7 @@ use Rattle.std.specs.shelf.Lists.{All}
 use Rattle.deltas.specs.declared.instruction.Instruction.{Instruction}
 use Rattle.deltas.specs.declared.instruction.Op.{Op}
 use Rattle.deltas.specs.declared.instruction.Op.the-variants.{Copy, Insert}
-use Rattle.deltas.specs.Instructions.{instruction, blank-instruction, goes-on}
+use Rattle.deltas.specs.Instructions.{blank-instruction, goes-on, cut}
 use Rattle.deltas.specs.Normal.{all-apart}
 use Rattle.deltas.specs.Origins.{copied, inserted, copies, given, piece, origins}
 use Rattle.deltas.specs.Steps.{total, Inside, Fits, place-at, Located}
@@ -110,7 +110,7 @@ inside-cut s m Copy p n k j l h = omega arith
 inside-cut s m Insert p n k j l h = omega arith
 
 -- a part of an instruction that fits
-pub fits-cut : (s m : ℕ) (i : Instruction) (k j : ℕ) → 0 < j → k + j ≤ i .length → Fits s m i → Fits s m (instruction (i .op) (i .from + k) j)
+pub fits-cut : (s m : ℕ) (i : Instruction) (k j : ℕ) → 0 < j → k + j ≤ i .length → Fits s m i → Fits s m (cut i k j)
 fits-cut s m i k j p l h = (p, inside-cut s m (i .op) (i .from) (i .length) k j l (h .1))
 
 -- some places, and some more

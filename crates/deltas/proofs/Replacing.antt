@@ -18,7 +18,8 @@ use Rattle.deltas.specs.Check.{instructions-of, units-of}
 use Rattle.deltas.specs.Origins.{given, piece, origins, origins-of}
 use Rattle.deltas.specs.Normal.{normal}
 use Rattle.deltas.specs.Combine.{origin-through, through, combined-origins}
-use Rattle.deltas.specs.Replace.{taken, cut, covering, replaced-one, replaced, units-by, taken-origins, replace-origins}
+use Rattle.deltas.specs.Instructions.{cut}
+use Rattle.deltas.specs.Replace.{taken, covering, replaced-one, replaced, units-by, taken-origins, replace-origins}
 use Rattle.deltas.specs.Steps.{Inside, Fits}
 use Rattle.deltas.specs.Laws.{Combining-is-replace}
 use Rattle.deltas.proofs.Sound.{lawful-fits, length-piece}
@@ -63,15 +64,15 @@ covering-origins s m us vs (i ∷ es) p n f l =
     cond-both (leb (i .length) p) (covering es (p - i .length) n) _ (λ ts. taken-origins us vs ts ≡ all)
     (λ t. covering-origins s m us vs es (p - i .length) n (f .1) l ∙ places-past (piece us i) os (i .length) p n e (leb-true (i .length) p t))
     (λ t. let h = leb-false (i .length) p t in
-        cond-both (leb n (i .length - p)) (taken Earlier (cut i p n) ∷ []) (taken Earlier (cut i p (i .length - p)) ∷ covering es 0 (n - (i .length - p))) (λ ts. taken-origins us vs ts ≡ all)
-        (λ u. let j = leb-true n (i .length - p) u in
-            append-nil (piece us (cut i p n)) ∙
-            sym (given-cut us (i .op) (i .from) (i .length) p n (omega arith)) ∙
-            places-inside (piece us i) os (i .length) p n e (omega arith))
-        (λ u. let j = leb-false n (i .length - p) u in
-            ap (λ ps. piece us (cut i p (i .length - p)) ++ ps) (covering-origins s m us vs es 0 (n - (i .length - p)) (f .1) l) ∙
-            ap (λ ps. ps ++ take (n - (i .length - p)) os) (sym (given-cut us (i .op) (i .from) (i .length) p (i .length - p) (omega arith))) ∙
-            places-across (piece us i) os (i .length) p n e h j))
+    cond-both (leb n (i .length - p)) (taken Earlier (cut i p n) ∷ []) (taken Earlier (cut i p (i .length - p)) ∷ covering es 0 (n - (i .length - p))) (λ ts. taken-origins us vs ts ≡ all)
+    (λ u. let j = leb-true n (i .length - p) u in
+    append-nil (piece us (cut i p n)) ∙
+    sym (given-cut us (i .op) (i .from) (i .length) p n (omega arith)) ∙
+    places-inside (piece us i) os (i .length) p n e (omega arith))
+    (λ u. let j = leb-false n (i .length - p) u in
+    ap (λ ps. piece us (cut i p (i .length - p)) ++ ps) (covering-origins s m us vs es 0 (n - (i .length - p)) (f .1) l) ∙
+    ap (λ ps. ps ++ take (n - (i .length - p)) os) (sym (given-cut us (i .op) (i .from) (i .length) p (i .length - p) (omega arith))) ∙
+    places-across (piece us i) os (i .length) p n e h j))
 
 module _ {U : Type 0} (s m : ℕ) (us vs : List U) (es : List Instruction) (f : All (Fits s m) es) (l : m ≤ length us) where
   -- one later instruction, and all of them
@@ -93,5 +94,5 @@ combining-is-replace U a b la lb meet =
     let h : All (Fits (length (origins-of a)) (b .head .inserted)) (instructions-of b) = subst (λ n. All (Fits n (b .head .inserted)) (instructions-of b)) e (lawful-fits b lb) in
     let u = length-units a la in
     let same : replace-origins a b ≡ combined-origins a b =
-        replaced-origins (a .head .source) (a .head .inserted) (units-of a) (units-of b) (instructions-of a) (lawful-fits a la) (omega arith) (b .head .inserted) (instructions-of b) h in
+    replaced-origins (a .head .source) (a .head .inserted) (units-of a) (units-of b) (instructions-of a) (lawful-fits a la) (omega arith) (b .head .inserted) (instructions-of b) h in
     (same, ap (normal (a .head .source)) (sym same))

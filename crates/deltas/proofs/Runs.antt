@@ -41,9 +41,10 @@ extend-same o p n m = cond-true (follows-on o (p + n) o (p + n)) _ _ (follows-sa
 -- after one run: it goes on to both instructions, or to neither
 extend-one-more : (a : Instruction) (o : Op) (p n m : ℕ) → extend (extend (a ∷ []) (instruction o p n)) (instruction o (p + n) m) ≡ extend (a ∷ []) (instruction o p (n + m))
 extend-one-more a o p n m =
-    elim (cases-bool (goes-on a (instruction o p n)))
-    [ inl e ↦ (let f = follows-more (a .op) (a .from + a .length) o p n e in simp (e, ← add-assoc, f))
-    | inr e ↦ simp e (ap (λ js. a ∷ js) (extend-same o p n m)) ]
+    elim (cases-bool (goes-on a (instruction o p n))) [
+      | inl e ↦ (let f = follows-more (a .op) (a .from + a .length) o p n e in simp (e, ← add-assoc, f))
+      | inr e ↦ simp e (ap (λ js. a ∷ js) (extend-same o p n m))
+    ]
 
 -- two instructions of which the second goes on at the end of the first are one
 pub extend-more : (is : List Instruction) (o : Op) (p n m : ℕ) → extend (extend is (instruction o p n)) (instruction o (p + n) m) ≡ extend is (instruction o p (n + m))

@@ -122,14 +122,18 @@ checked-facts d h e =
     let p = or-parts (passes (d .head .instructions) (length (d .table))) (passes (d .head .inserted) (length (d .units))) (a .0) in
     let q = or-parts (ltb (length (d .table)) (d .head .instructions)) (ltb 65535 (d .head .instructions)) (p .0) in
     let r = or-parts (ltb (length (d .units)) (d .head .inserted)) (ltb 65535 (d .head .inserted)) (p .1) in
-    let w = walked-facts (d .head) 0 0 0 (instructions-of d) h (a .1) in
-    (record {
+    let w = walked-facts (d .head) 0 0 0 (instructions-of d) h (a .1) in (
+      record {
         instructions = ltb-false (length (d .table)) (d .head .instructions) (q .0);
         few = ltb-false 65535 (d .head .instructions) (q .1);
         inserted = ltb-false (length (d .units)) (d .head .inserted) (r .0);
         small = ltb-false 65535 (d .head .inserted) (r .1);
-        sound = w .0; target = omega (arith, w .1); count = omega (arith, w .2) },
-     w .3)
+        sound = w .0;
+        target = omega (arith, w .1);
+        count = omega (arith, w .2);
+      },
+      w .3,
+    )
 
 pub passed : {U : Type 0} (d : Parts U) → Lawful d → Passed d
 passed d l = checked-facts d (d .head) l .0
@@ -154,9 +158,10 @@ inside-placed s m k Insert p n h l = let e : p ≡ k = h in omega arith
 
 pub sound-fits : (s m k : ℕ) (is : List Instruction) → Sound s k is → k + inserted-in is ≤ m → All (Fits s m) is
 sound-fits s m k [] h l = tt
-sound-fits s m k (i ∷ is) h l =
-    ((h .0, inside-placed s m k (i .op) (i .from) (i .length) (h .1) (omega arith)),
-     sound-fits s m (k + inserted-by (i .op) (i .length)) is (h .2) (omega arith))
+sound-fits s m k (i ∷ is) h l = (
+  (h .0, inside-placed s m k (i .op) (i .from) (i .length) (h .1) (omega arith)),
+  sound-fits s m (k + inserted-by (i .op) (i .length)) is (h .2) (omega arith),
+)
 
 -- as many units as are asked for
 pub length-inside : {U : Type 0} (us : List U) (p n m : ℕ) → p + n ≤ m → m ≤ length us → length (take n (drop p us)) ≡ n

@@ -72,28 +72,31 @@ module _ {U : Type 0} where
   normal-is-normal s os l w =
       let whole : runs os ≡ instructions-of (normal s os) = sym (take-length (runs os)) in
       let sound : Sound s 0 (runs os) = sound-runs s [] os tt w in
-      let longest : Longest (runs os) = apart-decides s 0 (runs os) sound .0 (apart-runs [] 0 os refl) in
-      (lawful (normal s os) (record {
+      let longest : Longest (runs os) = apart-decides s 0 (runs os) sound .0 (apart-runs [] 0 os refl) in (
+        lawful (normal s os) (record {
           instructions = omega arith;
           few = omega (arith, length-runs [] 0 os);
           inserted = omega arith;
           small = omega (arith, length-inserts os);
           sound = subst (λ is. Sound s 0 is) whole sound;
           target = sym (ap total whole) ∙ total-runs [] 0 os ∙ omega arith;
-          count = sym (ap inserted-in whole) ∙ inserted-runs [] 0 os ∙ omega arith }),
-       subst (λ is. Longest is) whole longest)
+          count = sym (ap inserted-in whole) ∙ inserted-runs [] 0 os ∙ omega arith;
+        }),
+        subst (λ is. Longest is) whole longest,
+      )
 
   only-one : (a b : Parts U) → Normal a → Normal b → a .head .source ≡ b .head .source → origins-of a ≡ origins-of b → Same a b
   only-one a b na nb s o =
       let is : instructions-of a ≡ instructions-of b = instructions-runs a na ∙ ap runs o ∙ sym (instructions-runs b nb) in
       let us : units-of a ≡ units-of b = units-inserts a (na .0) ∙ ap inserts o ∙ sym (units-inserts b (nb .0)) in
       record {
-          head = head-same (a .head) (b .head) s
-              (sym (length-target a (na .0)) ∙ ap length o ∙ length-target b (nb .0))
-              (sym (length-instructions a (na .0)) ∙ ap length is ∙ length-instructions b (nb .0))
-              (sym (length-units a (na .0)) ∙ ap length us ∙ length-units b (nb .0));
-          instructions = is;
-          units = us }
+        head = head-same (a .head) (b .head) s
+            (sym (length-target a (na .0)) ∙ ap length o ∙ length-target b (nb .0))
+            (sym (length-instructions a (na .0)) ∙ ap length is ∙ length-instructions b (nb .0))
+            (sym (length-units a (na .0)) ∙ ap length us ∙ length-units b (nb .0));
+        instructions = is;
+        units = us;
+      }
 
 pub stays-inside : (U : Type 0) → Stays-inside U
 stays-inside U = record { target = length-target; source = within-origins; pair = within-pair }
@@ -108,11 +111,12 @@ fewest U a b n l o =
 
 pub combined-is-normal : (U : Type 0) → Combined-is-normal U
 combined-is-normal U = record {
-    is-normal = λ a b la lb m t.
-        let e : length (combined-origins a b) ≡ b .head .target = length-map (origins-of b) (origin-through (origins-of a)) ∙ length-target b lb in
-        normal-is-normal (a .head .source) (combined-origins a b) (omega arith)
-            (within-through (a .head .source) (origins-of a) (origins-of b) (within-origins a la) (within-pair a b la lb m));
-    has-origins = λ a b. origins-normal (a .head .source) (combined-origins a b) }
+  is-normal = λ a b la lb m t.
+      let e : length (combined-origins a b) ≡ b .head .target = length-map (origins-of b) (origin-through (origins-of a)) ∙ length-target b lb in
+      normal-is-normal (a .head .source) (combined-origins a b) (omega arith)
+      (within-through (a .head .source) (origins-of a) (origins-of b) (within-origins a la) (within-pair a b la lb m));
+  has-origins = λ a b. origins-normal (a .head .source) (combined-origins a b);
+}
 
 pub associative : (U : Type 0) → Associative U
 associative U a b c la lb lc mab mbc =

@@ -74,10 +74,12 @@ written i n = record { instructions = i; inserted = n }
 
 append-copy-at : {U : Type 0} (us : List U) (out out′ : List Instruction) (w : Written) (r p n : ℕ) → 0 < n → take r out′ ≡ extend (take (w .instructions) out) (instruction Copy p n) → r ≤ w .instructions + 1 → Appended {U = U} (copies p n) out us w out′ us (written r (w .inserted))
 append-copy-at {U} us out out′ w r p n h t b =
-    record { instructions = t ∙ sym (runs-copies U (take (w .instructions) out) (w .inserted) p n h)
-           ; units = sym (ap (λ vs. take (w .inserted) us ++ vs) (inserts-copies U p n) ∙ append-nil (take (w .inserted) us))
-           ; count = omega (arith, length-copies U p n)
-           ; inserted = omega (arith, ap length (inserts-copies U p n)) }
+    record {
+      instructions = t ∙ sym (runs-copies U (take (w .instructions) out) (w .inserted) p n h);
+      units = sym (ap (λ vs. take (w .inserted) us ++ vs) (inserts-copies U p n) ∙ append-nil (take (w .inserted) us));
+      count = omega (arith, length-copies U p n);
+      inserted = omega (arith, ap length (inserts-copies U p n));
+    }
 
 -- a copy was appended
 pub append-copy : {U : Type 0} (source us : List U) (out out′ : List Instruction) (w : Written) (r : ℕ) (i : Instruction) → i .op ≡ Copy → 0 < i .length → take r out′ ≡ extend (take (w .instructions) out) i → r ≤ w .instructions + 1 → Appended (piece source i) out us w out′ us (written r (w .inserted))
@@ -87,10 +89,12 @@ append-copy source us out out′ w r i e h t b =
 
 append-insert-at : {U : Type 0} (us us′ vs : List U) (out out′ : List Instruction) (w : Written) (r : ℕ) → 0 < length vs → take r out′ ≡ extend (take (w .instructions) out) (instruction Insert (w .inserted) (length vs)) → r ≤ w .instructions + 1 → take (w .inserted + length vs) us′ ≡ take (w .inserted) us ++ vs → Appended (map inserted vs) out us w out′ us′ (written r (w .inserted + length vs))
 append-insert-at us us′ vs out out′ w r h t b u =
-    record { instructions = t ∙ sym (runs-inserted (take (w .instructions) out) (w .inserted) vs h)
-           ; units = u ∙ ap (λ xs. take (w .inserted) us ++ xs) (sym (inserts-map vs))
-           ; count = omega (arith, length-map vs inserted)
-           ; inserted = omega (arith, ap length (inserts-map vs)) }
+    record {
+      instructions = t ∙ sym (runs-inserted (take (w .instructions) out) (w .inserted) vs h);
+      units = u ∙ ap (λ xs. take (w .inserted) us ++ xs) (sym (inserts-map vs));
+      count = omega (arith, length-map vs inserted);
+      inserted = omega (arith, ap length (inserts-map vs));
+    }
 
 -- an insert was appended
 pub append-insert : {U : Type 0} (source us us′ : List U) (out out′ : List Instruction) (w : Written) (r : ℕ) (i : Instruction) → i .op ≡ Insert → 0 < i .length → i .from + i .length ≤ length source → take r out′ ≡ extend (take (w .instructions) out) (instruction Insert (w .inserted) (i .length)) → r ≤ w .instructions + 1 → take (w .inserted + i .length) us′ ≡ take (w .inserted) us ++ take (i .length) (drop (i .from) source) → Appended (piece source i) out us w out′ us′ (written r (w .inserted + i .length))
@@ -105,10 +109,12 @@ append-insert source us us′ out out′ w r i e h l t b u =
 -- one part was appended after another
 pub appended-then : {U : Type 0} (os ps : List (Origin U)) (out out′ out″ : List Instruction) (us us′ us″ : List U) (w w′ w″ : Written) → Appended os out us w out′ us′ w′ → Appended ps out′ us′ w′ out″ us″ w″ → Appended (os ++ ps) out us w out″ us″ w″
 appended-then os ps out out′ out″ us us′ us″ w w′ w″ a b =
-    record { instructions = b .instructions ∙ ap (λ is. runs-after is (w′ .inserted) ps) (a .instructions) ∙ ap (λ k. runs-after (runs-after (take (w .instructions) out) (w .inserted) os) k ps) (a .inserted) ∙ sym (runs-append (take (w .instructions) out) (w .inserted) os ps)
-           ; units = b .units ∙ ap (λ vs. vs ++ inserts ps) (a .units) ∙ append-assoc (take (w .inserted) us) (inserts os) (inserts ps) ∙ ap (λ vs. take (w .inserted) us ++ vs) (sym (inserts-append os ps))
-           ; count = omega (arith, length-append os ps, a .count, b .count)
-           ; inserted = omega (arith, a .inserted, b .inserted, ap length (inserts-append os ps), length-append (inserts os) (inserts ps)) }
+    record {
+      instructions = b .instructions ∙ ap (λ is. runs-after is (w′ .inserted) ps) (a .instructions) ∙ ap (λ k. runs-after (runs-after (take (w .instructions) out) (w .inserted) os) k ps) (a .inserted) ∙ sym (runs-append (take (w .instructions) out) (w .inserted) os ps);
+      units = b .units ∙ ap (λ vs. vs ++ inserts ps) (a .units) ∙ append-assoc (take (w .inserted) us) (inserts os) (inserts ps) ∙ ap (λ vs. take (w .inserted) us ++ vs) (sym (inserts-append os ps));
+      count = omega (arith, length-append os ps, a .count, b .count);
+      inserted = omega (arith, a .inserted, b .inserted, ap length (inserts-append os ps), length-append (inserts os) (inserts ps));
+    }
 
 -- nothing was appended
 pub appended-none : {U : Type 0} (out : List Instruction) (us : List U) (w : Written) → Appended [] out us w out us w
@@ -119,10 +125,12 @@ pub space-left : {U : Type 0} (os : List (Origin U)) (out out′ : List Instruct
 space-left os out out′ us us′ w w′ n m e i u a s =
     let t = ap total (a .instructions) ∙ total-runs (take (w .instructions) out) (w .inserted) os in
     let k = length-inserts os in
-    record { instructions = omega (arith, a .count, s .instructions)
-           ; inserted = omega (arith, a .inserted, s .inserted)
-           ; places = omega (arith, t, s .places)
-           ; numbers = omega (arith, a .inserted, s .numbers) }
+    record {
+      instructions = omega (arith, a .count, s .instructions);
+      inserted = omega (arith, a .inserted, s .inserted);
+      places = omega (arith, t, s .places);
+      numbers = omega (arith, a .inserted, s .numbers);
+    }
 
 pub inside-insert : (s m p n : ℕ) (o : Op) → o ≡ Insert → Inside s m o p n → p + n ≤ m
 inside-insert s m p n o e h = subst (λ q. Inside s m q p n) e h

@@ -27,3 +27,7 @@ goes-on a b = follows-on (a .op) (a .from + a .length) (b .op) (b .from)
 -- the same instruction with n units more at its end
 abbrev pub longer : Instruction → ℕ → Instruction
 longer a n = instruction (a .op) (a .from) (a .length + n)
+
+-- a clone of an instruction, cut at its front by k, and of n units
+abbrev pub cut : Instruction → ℕ → ℕ → Instruction
+cut i k n = instruction (i .op) (i .from + k) n

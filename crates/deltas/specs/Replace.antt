@@ -1,6 +1,6 @@
 use mathlib.Core.List.{List, [], _∷_, _++_}
 use mathlib.Core.Bool.{cond}
-use Prim.Native.Nat.{ℕ, _+_, _-_}
+use Prim.Native.Nat.{ℕ, _-_}
 use lib.Dec.{leb}
 use Rattle.std.specs.Joined.{joined}
 use Rattle.deltas.specs.declared.instruction.Instruction.{Instruction}
@@ -8,7 +8,7 @@ use Rattle.deltas.specs.declared.instruction.Op.{Op}
 use Rattle.deltas.specs.declared.instruction.Op.the-variants.{Copy, Insert}
 use Rattle.deltas.specs.declared.fault.Side.{Side}
 use Rattle.deltas.specs.declared.fault.Side.the-variants.{Earlier, Later}
-use Rattle.deltas.specs.Instructions.{instruction}
+use Rattle.deltas.specs.Instructions.{cut}
 use Rattle.deltas.specs.Check.{Parts, instructions-of, units-of}
 use Rattle.deltas.specs.Origins.{Origin, piece}
 
@@ -21,10 +21,6 @@ pub record Taken : Type 0 where
 
 abbrev pub taken : Side → Instruction → Taken
 taken s i = record { side = s; step = i }
-
--- a clone of an instruction, cut at its front by k, and of n units
-abbrev pub cut : Instruction → ℕ → ℕ → Instruction
-cut i k n = instruction (i .op) (i .from + k) n
 
 -- clones of the earlier instructions that cover n places from p on: those before p are passed over, the first is cut at
 -- its front, others follow until the n places are used up, and the last is shortened at its back

@@ -8,7 +8,12 @@ use crate::instruction::Instruction;
 use crate::instruction::Op;
 
 // How many units are inserted after the instruction at an index, or what is wrong with it.
-fn after_instruction(source: u16, inserted: usize, index: usize, instruction: Instruction) -> Result<usize, DeltaFault>
+fn after_instruction(
+    source: u16,
+    inserted: usize,
+    index: usize,
+    instruction: Instruction,
+) -> Result<usize, DeltaFault>
     requires { ⌜ inserted < 2 ^ 32 ⌝ }
     ensures { λ r. ⌜ r ≡ stepped source inserted index instruction ⌝ }
 {
@@ -42,7 +47,11 @@ impl<U> Delta<'_, '_, U> {
     {
         let head = self.head;
         let count = head.instructions;
-        if count > self.instructions.len() || count > 65535 || head.inserted > self.units.len() || head.inserted > 65535 {
+        if count > self.instructions.len()
+            || count > 65535
+            || head.inserted > self.units.len()
+            || head.inserted > 65535
+        {
             return Err(DeltaFault::Counts);
         }
         let mut total = 0;

@@ -70,7 +70,11 @@ impl DeltaFault {
             DeltaFault::TargetLength(count) => (8, count),
             DeltaFault::InsertedCount(count) => (10, count),
         };
-        Refusal { number, layer: Layer::Delta, place }
+        Refusal {
+            number,
+            layer: Layer::Delta,
+            place,
+        }
     }
 }
 
@@ -81,8 +85,16 @@ impl PairFault {
     {
         match self {
             PairFault::Unsound(_, fault) => fault.refusal(),
-            PairFault::Lengths(source) => Refusal { number: 11, layer: Layer::Pair, place: source as usize },
-            PairFault::Short(need) => Refusal { number: 31, layer: Layer::Pair, place: need as usize },
+            PairFault::Lengths(source) => Refusal {
+                number: 11,
+                layer: Layer::Pair,
+                place: source as usize,
+            },
+            PairFault::Short(need) => Refusal {
+                number: 31,
+                layer: Layer::Pair,
+                place: need as usize,
+            },
         }
     }
 

@@ -1,5 +1,6 @@
 ghost use mathlib.Core.Path.{_≡_};
-ghost use Rattle.deltas.specs.Instructions.{instruction, blank-instruction, goes-on};
+ghost use Prim.Native.Nat.{_+_, _≤_};
+ghost use Rattle.deltas.specs.Instructions.{instruction, blank-instruction, goes-on, cut};
 
 // Where an instruction takes its units from.
 #[derive(Clone, Copy, PartialEq, Eq, Debug)]
@@ -43,5 +44,13 @@ impl Instruction {
             (Op::Insert, Op::Insert) => end == next.from as u32,
             _ => false,
         }
+    }
+
+    // A clone of this instruction, cut at its front by `offset`, and of `length` units.
+    pub(crate) fn cut(self, offset: u16, length: u16) -> Instruction
+        requires { ⌜ self .from + offset ≤ 65535 ⌝ }
+        ensures { λ r. ⌜ r ≡ cut self offset length ⌝ }
+    {
+        Instruction::new(self.op, self.from + offset, length)
     }
 }

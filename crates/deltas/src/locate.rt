@@ -59,7 +59,15 @@ fn lesser(wanted: u16, left: u16) -> u16
 
 // Writes `count` of the places that some instructions give, from an offset inside one of them on:
 // `source` has the units that they insert.
-pub(crate) fn splice<U: Unit>(out: &mut [Instruction], units: &mut [U], at: Written, instructions: &[Instruction], source: &[U], found: (usize, u16), count: u16) -> Written
+pub(crate) fn splice<U: Unit>(
+    out: &mut [Instruction],
+    units: &mut [U],
+    at: Written,
+    instructions: &[Instruction],
+    source: &[U],
+    found: (usize, u16),
+    count: u16,
+) -> Written
     requires fits { ⌜ All (Fits 65535 (length (now source))) (now instructions) ⌝ }
     requires few { ⌜ length (now source) ≤ 65535 ⌝ }
     requires located { ⌜ Located (now instructions) (place-at (now instructions) (found .0) (found .1)) (found .0) (found .1) ⌝ }
@@ -73,8 +81,7 @@ pub(crate) fn splice<U: Unit>(out: &mut [Instruction], units: &mut [U], at: Writ
     while left > 0 {
         let next = instructions[index];
         let taken = lesser(left, next.length - offset);
-        let part = Instruction::new(next.op, next.from + offset, taken);
-        written = append(out, units, written, source, part);
+        written = append(out, units, written, source, next.cut(offset, taken));
         left -= taken;
         index += 1;
         offset = 0;

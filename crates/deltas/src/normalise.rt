@@ -22,12 +22,20 @@ use crate::write::finish;
 use units::Unit;
 
 // Writes the runs of some instructions, from the start of two output tables on.
-fn write_runs<U: Unit>(out: &mut [Instruction], units: &mut [U], instructions: &[Instruction], source: &[U]) -> Written
+fn write_runs<U: Unit>(
+    out: &mut [Instruction],
+    units: &mut [U],
+    instructions: &[Instruction],
+    source: &[U],
+) -> Written
     requires fits { ⌜ All (Fits 65535 (length (now source))) (now instructions) ⌝ }
     requires space { ⌜ Space (now out) (now units) nothing-written (total (now instructions)) ⌝ }
     ensures { λ r. ⌜ Appended (origins (now (source .entry)) (now (instructions .entry))) (now (out .entry)) (now (units .entry)) nothing-written (now (out .exit)) (now (units .exit)) r ⌝ }
 {
-    let mut written = Written { instructions: 0, inserted: 0 };
+    let mut written = Written {
+        instructions: 0,
+        inserted: 0,
+    };
     for next in instructions {
         written = append(out, units, written, source, *next);
     }
@@ -62,7 +70,11 @@ impl<U> Delta<'_, '_, U> {
 impl<U: Unit> Delta<'_, '_, U> {
     // Writes the delta's normal form into the first entries of two output tables, and blanks into all
     // the others. A refusal writes nothing.
-    pub fn normalise(&self, out_instructions: &mut [Instruction], out_units: &mut [U]) -> Result<Head, NormalFault>
+    pub fn normalise(
+        &self,
+        out_instructions: &mut [Instruction],
+        out_units: &mut [U],
+    ) -> Result<Head, NormalFault>
         ensures answer { λ r. ⌜ r ≡ normal-answer (parts-of (now (self .entry))) (length (now («out_instructions» .entry))) (length (now («out_units» .entry))) ⌝ }
         ensures instructions { λ r. ⌜ now («out_instructions» .exit) ≡ left-in r (now («out_instructions» .entry)) (runs (origins-of (parts-of (now (self .entry))))) blank-instruction ⌝ }
         ensures units { λ r. ⌜ now («out_units» .exit) ≡ left-in r (now («out_units» .entry)) (inserts (origins-of (parts-of (now (self .entry))))) blank ⌝ }
@@ -75,7 +87,18 @@ impl<U: Unit> Delta<'_, '_, U> {
         }
         let count = head.instructions;
         let own = head.inserted;
-        let written = write_runs(out_instructions, out_units, &self.instructions[0..count], &self.units[0..own]);
-        Ok(finish(out_instructions, out_units, written, head.source, head.target))
+        let written = write_runs(
+            out_instructions,
+            out_units,
+            &self.instructions[0..count],
+            &self.units[0..own],
+        );
+        Ok(finish(
+            out_instructions,
+            out_units,
+            written,
+            head.source,
+            head.target,
+        ))
     }
 }

@@ -34,7 +34,15 @@ struct Progress {
 
 // Takes one later instruction: an insert as it is, and in a copy's place what the earlier instructions
 // give there. `source` has the earlier delta's inserted units, `inserted` the later one's.
-fn combine_instruction<U: Unit>(out: &mut [Instruction], units: &mut [U], at: Progress, earlier: &[Instruction], source: &[U], inserted: &[U], next: Instruction) -> Progress
+fn combine_instruction<U: Unit>(
+    out: &mut [Instruction],
+    units: &mut [U],
+    at: Progress,
+    earlier: &[Instruction],
+    source: &[U],
+    inserted: &[U],
+    next: Instruction,
+) -> Progress
     requires earlier { ⌜ All (Fits 65535 (length (now source))) (now earlier) ⌝ }
     requires few { ⌜ length (now source) ≤ 65535 ⌝ }
     requires fits { ⌜ Fits (total (now earlier)) (length (now inserted)) next ⌝ }
@@ -46,26 +54,50 @@ fn combine_instruction<U: Unit>(out: &mut [Instruction], units: &mut [U], at: Pr
     match next.op {
         Op::Copy => {
             let (index, offset) = locate(earlier, at.cursor, next.from);
-            let cursor = Cursor { index, place: next.from - offset };
-            let written = splice(out, units, at.written, earlier, source, (index, offset), next.length);
+            let cursor = Cursor {
+                index,
+                place: next.from - offset,
+            };
+            let written = splice(
+                out,
+                units,
+                at.written,
+                earlier,
+                source,
+                (index, offset),
+                next.length,
+            );
             Progress { written, cursor }
         }
         Op::Insert => {
             let written = append(out, units, at.written, inserted, next);
-            Progress { written, cursor: at.cursor }
+            Progress {
+                written,
+                cursor: at.cursor,
+            }
         }
     }
 }
 
 // Takes every later instruction in order, from the start of two output tables on.
-fn write_combined<U: Unit>(out: &mut [Instruction], units: &mut [U], earlier: &[Instruction], source: &[U], later: &[Instruction], inserted: &[U]) -> Written
+fn write_combined<U: Unit>(
+    out: &mut [Instruction],
+    units: &mut [U],
+    earlier: &[Instruction],
+    source: &[U],
+    later: &[Instruction],
+    inserted: &[U],
+) -> Written
     requires earlier { ⌜ All (Fits 65535 (length (now source))) (now earlier) ⌝ }
     requires few { ⌜ length (now source) ≤ 65535 ⌝ }
     requires later { ⌜ All (Fits (total (now earlier)) (length (now inserted))) (now later) ⌝ }
     requires space { ⌜ Space (now out) (now units) nothing-written (total (now later)) ⌝ }
     ensures { λ r. ⌜ Appended (through (origins (now (source .entry)) (now (earlier .entry))) (origins (now (inserted .entry)) (now (later .entry)))) (now (out .entry)) (now (units .entry)) nothing-written (now (out .exit)) (now (units .exit)) r ⌝ }
 {
-    let written = Written { instructions: 0, inserted: 0 };
+    let written = Written {
+        instructions: 0,
+        inserted: 0,
+    };
     let cursor = Cursor { index: 0, place: 0 };
     let mut progress = Progress { written, cursor };
     for next in later {
@@ -77,7 +109,12 @@ fn write_combined<U: Unit>(out: &mut [Instruction], units: &mut [U], earlier: &[
 // Combines an earlier and a later delta into one, which does what the two do one after the other: its
 // normal form in the first entries of the output tables, and blanks in all the others. A refusal
 // writes nothing.
-pub fn combine<U: Unit>(earlier: &Delta<U>, later: &Delta<U>, out_instructions: &mut [Instruction], out_units: &mut [U]) -> Result<Head, PairFault>
+pub fn combine<U: Unit>(
+    earlier: &Delta<U>,
+    later: &Delta<U>,
+    out_instructions: &mut [Instruction],
+    out_units: &mut [U],
+) -> Result<Head, PairFault>
     ensures answer { λ r. ⌜ r ≡ combine-answer (parts-of (now (earlier .entry))) (parts-of (now (later .entry))) (length (now («out_instructions» .entry))) (length (now («out_units» .entry))) ⌝ }
     ensures instructions { λ r. ⌜ now («out_instructions» .exit) ≡ left-in r (now («out_instructions» .entry)) (runs (combined-origins (parts-of (now (earlier .entry))) (parts-of (now (later .entry))))) blank-instruction ⌝ }
     ensures units { λ r. ⌜ now («out_units» .exit) ≡ left-in r (now («out_units» .entry)) (inserts (combined-origins (parts-of (now (earlier .entry))) (parts-of (now (later .entry))))) blank ⌝ }
@@ -111,5 +148,11 @@ pub fn combine<U: Unit>(earlier: &Delta<U>, later: &Delta<U>, out_instructions: 
         &later.instructions[0..second_count],
         &later.units[0..second_inserted],
     );
-    Ok(finish(out_instructions, out_units, written, first.source, second.target))
+    Ok(finish(
+        out_instructions,
+        out_units,
+        written,
+        first.source,
+        second.target,
+    ))
 }

@@ -42,7 +42,13 @@ fn emit(out: &mut [Instruction], count: usize, next: Instruction) -> usize
 }
 
 // Writes what one instruction gives behind what is written: `source` has the units that it inserts.
-pub(crate) fn append<U: Unit>(out: &mut [Instruction], units: &mut [U], at: Written, source: &[U], part: Instruction) -> Written
+pub(crate) fn append<U: Unit>(
+    out: &mut [Instruction],
+    units: &mut [U],
+    at: Written,
+    source: &[U],
+    part: Instruction,
+) -> Written
     requires fits { ⌜ Fits 65535 (length (now source)) part ⌝ }
     requires space { ⌜ Space (now out) (now units) at (part .length) ⌝ }
     ensures { λ r. ⌜ Appended (piece (now (source .entry)) part) (now (out .entry)) (now (units .entry)) at (now (out .exit)) (now (units .exit)) r ⌝ }
@@ -50,16 +56,26 @@ pub(crate) fn append<U: Unit>(out: &mut [Instruction], units: &mut [U], at: Writ
     match part.op {
         Op::Copy => {
             let instructions = emit(out, at.instructions, part);
-            Written { instructions, inserted: at.inserted }
+            Written {
+                instructions,
+                inserted: at.inserted,
+            }
         }
         Op::Insert => {
             let start = at.inserted;
             let end = start + part.length as usize;
             let from = part.from as usize;
             let to = from + part.length as usize;
-            let instructions = emit(out, at.instructions, Instruction::new(Op::Insert, start as u16, part.length));
+            let instructions = emit(
+                out,
+                at.instructions,
+                Instruction::new(Op::Insert, start as u16, part.length),
+            );
             units[start..end].copy_from_slice(&source[from..to]);
-            Written { instructions, inserted: end }
+            Written {
+                instructions,
+                inserted: end,
+            }
         }
     }
 }
@@ -76,7 +92,13 @@ fn blank_rest<T: Copy>(table: &mut [T], count: usize, blank: T)
 }
 
 // Blanks what is not written of two output tables, and answers the head of the delta that is.
-pub(crate) fn finish<U: Unit>(out: &mut [Instruction], units: &mut [U], written: Written, source: u16, target: u16) -> Head
+pub(crate) fn finish<U: Unit>(
+    out: &mut [Instruction],
+    units: &mut [U],
+    written: Written,
+    source: u16,
+    target: u16,
+) -> Head
     requires instructions { ⌜ written .instructions ≤ length (now out) ⌝ }
     requires units { ⌜ written .inserted ≤ length (now units) ⌝ }
     ensures head { λ r. ⌜ r ≡ head source target (written .instructions) (written .inserted) ⌝ }
@@ -87,5 +109,10 @@ pub(crate) fn finish<U: Unit>(out: &mut [Instruction], units: &mut [U], written:
     let inserted = written.inserted;
     blank_rest(out, instructions, Instruction::blank());
     blank_rest(units, inserted, U::blank());
-    Head { source, target, instructions, inserted }
+    Head {
+        source,
+        target,
+        instructions,
+        inserted,
+    }
 }

@@ -4,7 +4,7 @@ use Prim.Native.Nat.{_+_, _-_, _≤_, _<_}
 use native.Mathlib.Omega.{arith}
 use lib.ListN.{length, take, drop, getD}
 use Rattle.std.proofs.shelf.Elements.{all-getD}
-use Rattle.deltas.specs.Instructions.{instruction, blank-instruction}
+use Rattle.deltas.specs.Instructions.{blank-instruction, cut}
 use Rattle.deltas.specs.Origins.{piece, origins}
 use Rattle.deltas.specs.Steps.{Fits, Space, Appended, place-at, Located}
 use Rattle.deltas.proofs.Pieces.{fits-end, fits-cut, piece-at, located-next, taken-more}
@@ -12,8 +12,8 @@ use Rattle.deltas.proofs.Sound.{length-piece}
 use Rattle.deltas.proofs.Writes.{appended-then, space-left, space-less}
 use Rattle.deltas.proofs.locate.splice.Needs as need
 
-pub add-next : need.add-next
-add-next g c =
+pub cut-requires : need.cut-requires
+cut-requires g c κs =
     let i = getD (c .args .instructions .now) (c .loop-left .index) blank-instruction in
     let at = c .loop-left .inv .1 (c .loop-left-test .taken) in
     let fits = all-getD (Fits 65535 (length (c .args .source .now))) (c .args .instructions .now) (c .loop-left .index) blank-instruction (at .within) (c .pre .fits) in
@@ -27,8 +27,10 @@ append-written-requires g c κs =
     let some : 0 < c .lesser-taken .result = omega (arith, at .inside) in
     let inside : c .loop-left .offset + c .lesser-taken .result ≤ i .length = omega (arith, at .inside) in
     let few : c .lesser-taken .result ≤ c .loop-left .left = omega arith in
-    record { fits = subst (λ j. Fits 65535 (length (c .args .source .now)) j) (sym (c .new-part .ensures)) (fits-cut 65535 (length (c .args .source .now)) i (c .loop-left .offset) (c .lesser-taken .result) some inside fits)
-           ; space = subst (λ j. Space (c .loop-left .out) (c .loop-left .units) (c .loop-left .written) (j .length)) (sym (c .new-part .ensures)) (space-less _ _ _ (c .loop-left .left) (c .lesser-taken .result) few (c .loop-left .inv .2)) }
+    record {
+      fits = subst (λ j. Fits 65535 (length (c .args .source .now)) j) (sym (c .cut .ensures)) (fits-cut 65535 (length (c .args .source .now)) i (c .loop-left .offset) (c .lesser-taken .result) some inside fits);
+      space = subst (λ j. Space (c .loop-left .out) (c .loop-left .units) (c .loop-left .written) (j .length)) (sym (c .cut .ensures)) (space-less _ _ _ (c .loop-left .left) (c .lesser-taken .result) few (c .loop-left .inv .2));
+    }
 
 pub loop-left-again : need.loop-left-again
 loop-left-again g c =
@@ -43,19 +45,20 @@ loop-left-again g c =
     let fits = all-getD (Fits 65535 m) is (c .loop-left .index) blank-instruction (at .within) (c .pre .fits) in
     let some : 0 < n = omega (arith, at .inside) in
     let inside : c .loop-left .offset + n ≤ i .length = omega (arith, at .inside) in
-    let part : piece us (c .new-part .result) ≡ take n (drop (place + done) (origins us is)) =
-          ap (piece us) (c .new-part .ensures)
-          ∙ piece-at 65535 m us is (c .loop-left .index) (c .loop-left .offset) n (c .pre .fits) (omega arith) (at .within) inside
-          ∙ ap (λ p. take n (drop p (origins us is))) (sym (at .at)) in
-    let long : length (piece us (c .new-part .result)) ≡ n =
-          ap (λ j. length (piece us j)) (c .new-part .ensures) ∙ length-piece us (instruction (i .op) (i .from + c .loop-left .offset) n) 65535 m (fits-cut 65535 m i (c .loop-left .offset) n some inside fits) (omega arith) in
+    let part : piece us (c .cut .result) ≡ take n (drop (place + done) (origins us is)) =
+    ap (piece us) (c .cut .ensures)
+    ∙ piece-at 65535 m us is (c .loop-left .index) (c .loop-left .offset) n (c .pre .fits) (omega arith) (at .within) inside
+    ∙ ap (λ p. take n (drop p (origins us is))) (sym (at .at)) in
+    let long : length (piece us (c .cut .result)) ≡ n =
+    ap (λ j. length (piece us j)) (c .cut .ensures) ∙ length-piece us (cut i (c .loop-left .offset) n) 65535 m (fits-cut 65535 m i (c .loop-left .offset) n some inside fits) (omega arith) in
     let more : done + n ≡ c .args .count - (c .loop-left .left - n) = omega arith in
-    let all : take done (drop place (origins us is)) ++ piece us (c .new-part .result) ≡ take (c .args .count - (c .loop-left .left - n)) (drop place (origins us is)) =
-          ap (λ os. take done (drop place (origins us is)) ++ os) part ∙ taken-more (origins us is) place done n ∙ ap (λ k. take k (drop place (origins us is))) more in
-    ( omega arith
-    , (λ left. let e : place + done + n ≡ place + (c .args .count - (c .loop-left .left - n)) = omega arith in
-        subst (λ p. Located is p (c .loop-left .index + 1) 0) e
-        (located-next 65535 m is (place + done) (c .loop-left .index) (c .loop-left .offset) n (c .pre .fits) at (omega (arith, at .inside)) (omega (arith, c .pre .inside))))
-    , space-left (piece us (c .new-part .result)) _ _ _ _ _ _ (c .loop-left .left) (c .loop-left .left - n) (omega arith) (omega arith) (omega arith) (c .append-written .ensures) (c .loop-left .inv .2)
-    , subst (λ os. Appended os (c .args .out .now) (c .args .units .now) (c .args .at) (c .append-written .last .out) (c .append-written .last .units) (c .append-written .result)) all
-      (appended-then _ _ _ _ _ _ _ _ _ _ _ (c .loop-left .inv .3) (c .append-written .ensures)) )
+    let all : take done (drop place (origins us is)) ++ piece us (c .cut .result) ≡ take (c .args .count - (c .loop-left .left - n)) (drop place (origins us is)) =
+    ap (λ os. take done (drop place (origins us is)) ++ os) part ∙ taken-more (origins us is) place done n ∙ ap (λ k. take k (drop place (origins us is))) more in (
+      omega arith,
+      (λ left. let e : place + done + n ≡ place + (c .args .count - (c .loop-left .left - n)) = omega arith in
+          subst (λ p. Located is p (c .loop-left .index + 1) 0) e
+          (located-next 65535 m is (place + done) (c .loop-left .index) (c .loop-left .offset) n (c .pre .fits) at (omega (arith, at .inside)) (omega (arith, c .pre .inside)))),
+      space-left (piece us (c .cut .result)) _ _ _ _ _ _ (c .loop-left .left) (c .loop-left .left - n) (omega arith) (omega arith) (omega arith) (c .append-written .ensures) (c .loop-left .inv .2),
+      subst (λ os. Appended os (c .args .out .now) (c .args .units .now) (c .args .at) (c .append-written .last .out) (c .append-written .last .units) (c .append-written .result)) all
+          (appended-then _ _ _ _ _ _ _ _ _ _ _ (c .loop-left .inv .3) (c .append-written .ensures)),
+    )

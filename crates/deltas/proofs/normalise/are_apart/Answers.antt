@@ -17,8 +17,9 @@ returns-then-goes-on c =
 pub loop-pair-again : need.loop-pair-again
 loop-pair-again c =
     let s = c .in-Some .ensures tt .steps .1 in
-    let n = c .in-Some .ensures tt .steps .0 in
-    ( omega (arith, n, c .loop-pair .inv .2)
-    , tt
-    , n ∙ c .loop-pair .inv .2
-    , ap all-apart (s .2) ∙ sym (apart-turn (windows-rest (c .loop-pair .pair-iterator)) (c .in-Some .pair .now) (windows-size (c .loop-pair .pair-iterator)) false (c .loop-pair .inv .2) (s .0) (s .1) (c .if-goes-on .ensures tt)) ∙ c .loop-pair .inv .3 )
+    let n = c .in-Some .ensures tt .steps .0 in (
+      omega (arith, n, c .loop-pair .inv .2),
+      tt,
+      n ∙ c .loop-pair .inv .2,
+      ap all-apart (s .2) ∙ sym (apart-turn (windows-rest (c .loop-pair .pair-iterator)) (c .in-Some .pair .now) (windows-size (c .loop-pair .pair-iterator)) false (c .loop-pair .inv .2) (s .0) (s .1) (c .if-goes-on .ensures tt)) ∙ c .loop-pair .inv .3,
+    )

@@ -19,8 +19,10 @@ append-written-requires g c κs =
     let k = c .loop-next .next-index in
     let more = total-more is k (omega arith) in
     let front = total-front is (k + 1) in
-    record { fits = all-getD (Fits 65535 (length (c .args .source .now))) is k blank-instruction (omega arith) (c .pre .fits)
-           ; space = space-less _ _ _ (total is - total (take k is)) (getD is k blank-instruction .length) (omega arith) (c .loop-next .inv .0) }
+    record {
+      fits = all-getD (Fits 65535 (length (c .args .source .now))) is k blank-instruction (omega arith) (c .pre .fits);
+      space = space-less _ _ _ (total is - total (take k is)) (getD is k blank-instruction .length) (omega arith) (c .loop-next .inv .0);
+    }
 
 pub loop-next-again : need.loop-next-again
 loop-next-again g c =
@@ -32,10 +34,11 @@ loop-next-again g c =
     let front = total-front is (k + 1) in
     let fits = all-getD (Fits 65535 (length us)) is k blank-instruction (omega arith) (c .pre .fits) in
     let long = length-piece us i 65535 (length us) fits (omega arith) in
-    let room : total is - total (take k is) ≡ length (piece us i) + (total is - total (take (k + 1) is)) = omega arith in
-    ( space-left (piece us i) _ _ _ _ _ _ (total is - total (take k is)) (total is - total (take (k + 1) is)) room (omega arith) (omega arith) (c .append-written .ensures) (c .loop-next .inv .0)
-    , subst (λ os. Appended os (c .args .out .now) (c .args .units .now) nothing-written (c .append-written .last .out) (c .append-written .last .units) (c .append-written .result)) (sym (origins-more us is k (omega arith)))
-      (appended-then _ _ _ _ _ _ _ _ _ _ _ (c .loop-next .inv .1) (c .append-written .ensures)) )
+    let room : total is - total (take k is) ≡ length (piece us i) + (total is - total (take (k + 1) is)) = omega arith in (
+      space-left (piece us i) _ _ _ _ _ _ (total is - total (take k is)) (total is - total (take (k + 1) is)) room (omega arith) (omega arith) (c .append-written .ensures) (c .loop-next .inv .0),
+      subst (λ os. Appended os (c .args .out .now) (c .args .units .now) nothing-written (c .append-written .last .out) (c .append-written .last .units) (c .append-written .result)) (sym (origins-more us is k (omega arith)))
+          (appended-then _ _ _ _ _ _ _ _ _ _ _ (c .loop-next .inv .1) (c .append-written .ensures)),
+    )
 
 pub returns : need.returns
 returns g c =

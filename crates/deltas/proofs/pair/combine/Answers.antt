@@ -22,10 +22,12 @@ write-combined-written-requires g c κs =
     let la = passed-any a _ (sym (c .in-Ok .ensures tt)) in
     let lb = passed-any b _ (sym (c .in-Ok-check .ensures tt)) in
     let t = ready-total b lb in
-    record { earlier = ready a 65535 la (grind arith)
-           ; few = ready-few a la
-           ; later = subst (λ n. All (Fits n (length (take (b .head .inserted - 0) (b .units)))) (take (b .head .instructions - 0) (b .table))) (sym (c .if-first-second .left) ∙ sym (ready-total a la)) (ready b (b .head .source) lb (omega arith))
-           ; space = record { instructions = omega arith; inserted = omega arith; places = omega arith; numbers = omega arith } }
+    record {
+      earlier = ready a 65535 la (grind arith);
+      few = ready-few a la;
+      later = subst (λ n. All (Fits n (length (take (b .head .inserted - 0) (b .units)))) (take (b .head .instructions - 0) (b .table))) (sym (c .if-first-second .left) ∙ sym (ready-total a la)) (ready b (b .head .source) lb (omega arith));
+      space = record { instructions = omega arith; inserted = omega arith; places = omega arith; numbers = omega arith };
+    }
 
 pub finish-requires : need.finish-requires
 finish-requires g c κs =
@@ -43,7 +45,9 @@ returns g c =
     let us = c .write-combined-written .last .units in
     let lb = passed-any b _ (sym (c .in-Ok-check .ensures tt)) in
     let done = combine-whole a b (c .args .out-instructions .now) out (c .args .out-units .now) us w lb (c .write-combined-written .ensures) (omega arith) (omega arith) in
-    record { answer = ap Ok (c .finish .ensures .head ∙ head-is os (a .head .source) (b .head .target) (w .instructions) (w .inserted) (sym (length-combined a b lb)) (done .count) (done .inserted))
-                      ∙ answer-ok a b (length (c .args .out-instructions .now)) (length (c .args .out-units .now)) _ _ (c .in-Ok .ensures tt) (c .in-Ok-check .ensures tt) (c .if-first-second .left) (omega arith) (omega arith)
-           ; instructions = c .finish .ensures .instructions ∙ filled (c .args .out-instructions .now) out (runs os) (w .instructions) blank-instruction (done .instructions) (done .count) (omega arith)
-           ; units = c .finish .ensures .units ∙ filled (c .args .out-units .now) us (inserts os) (w .inserted) (g .U·Unit .blank) (done .units) (done .inserted) (omega arith) }
+    record {
+      answer = ap Ok (c .finish .ensures .head ∙ head-is os (a .head .source) (b .head .target) (w .instructions) (w .inserted) (sym (length-combined a b lb)) (done .count) (done .inserted))
+          ∙ answer-ok a b (length (c .args .out-instructions .now)) (length (c .args .out-units .now)) _ _ (c .in-Ok .ensures tt) (c .in-Ok-check .ensures tt) (c .if-first-second .left) (omega arith) (omega arith);
+      instructions = c .finish .ensures .instructions ∙ filled (c .args .out-instructions .now) out (runs os) (w .instructions) blank-instruction (done .instructions) (done .count) (omega arith);
+      units = c .finish .ensures .units ∙ filled (c .args .out-units .now) us (inserts os) (w .inserted) (g .U·Unit .blank) (done .units) (done .inserted) (omega arith);
+    }

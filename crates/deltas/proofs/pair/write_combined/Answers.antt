@@ -21,11 +21,13 @@ combine-instruction-progress-requires g c κs =
     let i = getD later k blank-instruction in
     let more = total-more later k (omega arith) in
     let front = total-front later (k + 1) in
-    record { earlier = c .pre .earlier
-           ; few = c .pre .few
-           ; fits = all-getD (Fits (total (c .args .earlier .now)) (length (c .args .inserted .now))) later k blank-instruction (omega arith) (c .pre .later)
-           ; space = space-less _ _ _ (total later - total (take k later)) (i .length) (omega arith) (c .loop-next .inv .0)
-           ; standing = c .loop-next .inv .2 }
+    record {
+      earlier = c .pre .earlier;
+      few = c .pre .few;
+      fits = all-getD (Fits (total (c .args .earlier .now)) (length (c .args .inserted .now))) later k blank-instruction (omega arith) (c .pre .later);
+      space = space-less _ _ _ (total later - total (take k later)) (i .length) (omega arith) (c .loop-next .inv .0);
+      standing = c .loop-next .inv .2;
+    }
 
 pub loop-next-again : need.loop-next-again
 loop-next-again g c =
@@ -39,11 +41,12 @@ loop-next-again g c =
     let s = total (c .args .earlier .now) in
     let fits = all-getD (Fits s (length us)) later k blank-instruction (omega arith) (c .pre .later) in
     let long : length (through es (piece us i)) ≡ i .length = length-map (piece us i) (origin-through es) ∙ length-piece us i s (length us) fits (omega arith) in
-    let room : total later - total (take k later) ≡ length (through es (piece us i)) + (total later - total (take (k + 1) later)) = omega arith in
-    ( space-left (through es (piece us i)) _ _ _ _ _ _ (total later - total (take k later)) (total later - total (take (k + 1) later)) room (omega arith) (omega arith) (c .combine-instruction-progress .ensures .appended) (c .loop-next .inv .0)
-    , subst (λ os. Appended os (c .args .out .now) (c .args .units .now) nothing-written (c .combine-instruction-progress .last .out) (c .combine-instruction-progress .last .units) (c .combine-instruction-progress .result .written)) (sym (through-more es us later k (omega arith)))
-      (appended-then _ _ _ _ _ _ _ _ _ _ _ (c .loop-next .inv .1) (c .combine-instruction-progress .ensures .appended))
-    , c .combine-instruction-progress .ensures .standing )
+    let room : total later - total (take k later) ≡ length (through es (piece us i)) + (total later - total (take (k + 1) later)) = omega arith in (
+      space-left (through es (piece us i)) _ _ _ _ _ _ (total later - total (take k later)) (total later - total (take (k + 1) later)) room (omega arith) (omega arith) (c .combine-instruction-progress .ensures .appended) (c .loop-next .inv .0),
+      subst (λ os. Appended os (c .args .out .now) (c .args .units .now) nothing-written (c .combine-instruction-progress .last .out) (c .combine-instruction-progress .last .units) (c .combine-instruction-progress .result .written)) (sym (through-more es us later k (omega arith)))
+          (appended-then _ _ _ _ _ _ _ _ _ _ _ (c .loop-next .inv .1) (c .combine-instruction-progress .ensures .appended)),
+      c .combine-instruction-progress .ensures .standing,
+    )
 
 pub returns : need.returns
 returns g c =

@@ -15,8 +15,10 @@ write-runs-written-requires g c κs =
     let d = parts-of (c .args .self .now) in
     let lawful = passed-any d _ (sym (c .in-Continue-check .ensures tt)) in
     let t = ready-total d lawful in
-    record { fits = ready d 65535 lawful (grind arith)
-           ; space = record { instructions = omega arith; inserted = omega arith; places = omega arith; numbers = omega arith } }
+    record {
+      fits = ready d 65535 lawful (grind arith);
+      space = record { instructions = omega arith; inserted = omega arith; places = omega arith; numbers = omega arith };
+    }
 
 pub finish-requires : need.finish-requires
 finish-requires g c κs =
@@ -34,7 +36,9 @@ returns g c =
     let us = c .write-runs-written .last .units in
     let lawful = passed-any d _ (sym (c .in-Continue-check .ensures tt)) in
     let done = normal-whole d (c .args .out-instructions .now) out (c .args .out-units .now) us w lawful (c .write-runs-written .ensures) (omega arith) (omega arith) in
-    record { answer = ap Ok (c .finish .ensures .head ∙ head-is os (d .head .source) (d .head .target) (w .instructions) (w .inserted) (sym (length-origins-of d lawful)) (done .count) (done .inserted))
-                      ∙ normal-ok d (length (c .args .out-instructions .now)) (length (c .args .out-units .now)) _ (c .in-Continue-check .ensures tt) (omega arith) (omega arith)
-           ; instructions = c .finish .ensures .instructions ∙ filled (c .args .out-instructions .now) out (runs os) (w .instructions) blank-instruction (done .instructions) (done .count) (omega arith)
-           ; units = c .finish .ensures .units ∙ filled (c .args .out-units .now) us (inserts os) (w .inserted) (g .U·Unit .blank) (done .units) (done .inserted) (omega arith) }
+    record {
+      answer = ap Ok (c .finish .ensures .head ∙ head-is os (d .head .source) (d .head .target) (w .instructions) (w .inserted) (sym (length-origins-of d lawful)) (done .count) (done .inserted))
+          ∙ normal-ok d (length (c .args .out-instructions .now)) (length (c .args .out-units .now)) _ (c .in-Continue-check .ensures tt) (omega arith) (omega arith);
+      instructions = c .finish .ensures .instructions ∙ filled (c .args .out-instructions .now) out (runs os) (w .instructions) blank-instruction (done .instructions) (done .count) (omega arith);
+      units = c .finish .ensures .units ∙ filled (c .args .out-units .now) us (inserts os) (w .inserted) (g .U·Unit .blank) (done .units) (done .inserted) (omega arith);
+    }
