@@ -1,18 +1,15 @@
 -- What the calls that write a delta into two output tables answer, and what they leave there.
-use mathlib.Core.Path.{_≡_, refl, sym, ap, subst, _∙_}
-use mathlib.Core.List.{List, [], _∷_, _++_, map}
-use mathlib.Core.Bool.{true, false, cond, _||_}
-use mathlib.Core.Logic.{_⊎_, inl, inr}
+use mathlib.Core.Path.{_≡_, sym, ap, subst, _∙_}
+use mathlib.Core.List.{List, _++_}
+use mathlib.Core.Logic.{_⊎_}
 use Prim.Native.Nat.{ℕ, _+_, _-_, _≤_, _<_}
 use native.Mathlib.Nat.{sub-zero}
 use native.Mathlib.Omega.{arith}
-use lib.Dec.{eqb, ltb}
-use lib.ListN.{length, take, drop, replicate}
+use lib.ListN.{length, take, replicate}
 use Rattle.std.proofs.shelf.Ways.{tells}
 use Rattle.std.proofs.shelf.Lists.{length-take, length-take-le, length-map}
 use Rattle.std.proofs.shelf.Elements.{all-weaker}
 use Rattle.std.specs.shelf.Lists.{All}
-use Rattle.std.specs.declared.result.Result.{Result}
 use Rattle.std.specs.declared.result.Result.the-variants.{Ok, Err}
 use Rattle.deltas.specs.declared.instruction.Instruction.{Instruction}
 use Rattle.deltas.specs.declared.instruction.Op.{Op}
@@ -24,11 +21,11 @@ use Rattle.deltas.specs.declared.fault.PairFault.the-variants as pair
 use Rattle.deltas.specs.Check.{head, Parts, checked, Lawful, instructions-of, units-of}
 use Rattle.deltas.specs.Origins.{Origin, origins, origins-of, inserts}
 use Rattle.deltas.specs.Normal.{runs, normal-head}
-use Rattle.deltas.specs.Combine.{Meet, origin-through, through, combined-origins}
+use Rattle.deltas.specs.Combine.{origin-through, through, combined-origins}
 use Rattle.deltas.specs.Outcomes.{combine-answer, normal-answer}
-use Rattle.deltas.specs.Steps.{total, nothing-written, Inside, Fits, Space, Appended}
+use Rattle.deltas.specs.Steps.{total, nothing-written, Inside, Fits, Appended}
 use Rattle.deltas.proofs.Runs.{length-inserts}
-use Rattle.deltas.proofs.Sound.{Passed, passed, passed-any, lawful-fits, length-origins}
+use Rattle.deltas.proofs.Sound.{passed, lawful-fits, length-origins}
 
 -- two output tables from their first entries on: the runs and the units of some origins, and nothing else is counted
 pub record Whole {U : Type 0} (os : List (Origin U)) (out : List Instruction) (us : List U) (w : Written) : Type 0 where

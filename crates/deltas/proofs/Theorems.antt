@@ -7,7 +7,7 @@ use lib.Seq.{take-length, take-all, length-take-le}
 use Rattle.std.proofs.shelf.Lists.{length-map}
 use Rattle.deltas.specs.declared.delta.Head.{Head}
 use Rattle.deltas.specs.Check.{Parts, Lawful, instructions-of, units-of}
-use Rattle.deltas.specs.Origins.{Origin, origins, origins-of, inserts, Within, applied}
+use Rattle.deltas.specs.Origins.{Origin, origins-of, inserts, Within, applied}
 use Rattle.deltas.specs.Normal.{Longest, Normal, runs, normal}
 use Rattle.deltas.specs.Combine.{Meet, origin-through, through, combined-origins}
 use Rattle.deltas.specs.Steps.{total}
@@ -102,7 +102,7 @@ pub stays-inside : (U : Type 0) → Stays-inside U
 stays-inside U = record { target = length-target; source = within-origins; pair = within-pair }
 
 pub one-normal-form : (U : Type 0) → One-normal-form U
-one-normal-form U = record { is-normal = λ s os _ l w. normal-is-normal s os l w; has-origins = origins-normal; only = only-one }
+one-normal-form U = record { is-normal = normal-is-normal; has-origins = origins-normal; only = only-one }
 
 pub fewest : (U : Type 0) → Fewest U
 fewest U a b n l o =

@@ -7,7 +7,6 @@ use lib.ListN.{length, take, drop, getD}
 use lib.Seq.{drop-cons}
 use Rattle.std.proofs.shelf.Lists.{take-more, joined-more, map-append}
 use Rattle.deltas.specs.declared.instruction.Instruction.{Instruction}
-use Rattle.deltas.specs.declared.instruction.Op.{Op}
 use Rattle.deltas.specs.declared.instruction.Op.the-variants.{Copy, Insert}
 use Rattle.deltas.specs.Instructions.{blank-instruction}
 use Rattle.deltas.specs.Origins.{Origin, copied, inserted, copies, given, piece, origins}

@@ -1,21 +1,20 @@
 -- What the functions that write the output tables leave in them.
 use mathlib.Core.Path.{_≡_, refl, sym, ap, subst, _∙_}
 use mathlib.Core.List.{List, [], _∷_, _++_, map}
-use mathlib.Core.Bool.{true, false, cond}
+use mathlib.Core.Bool.{true, false}
 use Prim.Native.Nat.{ℕ, _+_, _-_, _≤_, _<_}
-use native.Mathlib.Nat.{add-zero}
 use native.Mathlib.Omega.{arith}
 use lib.ListN.{length, take, drop, getD, set}
-use Rattle.std.proofs.shelf.Lists.{append-assoc, append-nil, take-more, take-more-set, take-take, length-take, length-drop, length-map, length-append}
+use Rattle.std.proofs.shelf.Lists.{append-assoc, append-nil, take-more, take-more-set, length-take, length-drop, length-map, length-append}
 use Rattle.std.proofs.shelf.Tests.{cond-true, cond-false}
 use Rattle.deltas.specs.declared.instruction.Instruction.{Instruction}
 use Rattle.deltas.specs.declared.instruction.Op.{Op}
 use Rattle.deltas.specs.declared.instruction.Op.the-variants.{Copy, Insert}
 use Rattle.deltas.specs.declared.write.Written.{Written}
 use Rattle.deltas.specs.Instructions.{instruction, blank-instruction, goes-on, longer}
-use Rattle.deltas.specs.Origins.{Origin, copied, inserted, copies, given, piece, inserts}
+use Rattle.deltas.specs.Origins.{Origin, inserted, copies, given, piece, inserts}
 use Rattle.deltas.specs.Normal.{extend, runs-after}
-use Rattle.deltas.specs.Steps.{total, Inside, Fits, Space, Appended}
+use Rattle.deltas.specs.Steps.{total, Inside, Space, Appended}
 use Rattle.deltas.proofs.Runs.{runs-append, inserts-append, length-copies, inserts-copies, runs-copies, inserts-map, runs-inserted, total-append, total-runs, length-inserts}
 
 -- only the last instruction is looked at

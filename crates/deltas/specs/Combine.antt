@@ -1,6 +1,5 @@
 use mathlib.Core.Path.{_≡_}
 use mathlib.Core.List.{List, map}
-use Prim.Native.Nat.{ℕ}
 use lib.ListN.{getD}
 use Rattle.deltas.specs.Check.{Parts}
 use Rattle.deltas.specs.Origins.{Origin, copied, inserted, origins-of}

@@ -3,12 +3,9 @@ use mathlib.Core.List.{List, [], _∷_}
 use Prim.Native.Nat.{ℕ}
 use lib.ListN.{length}
 use lib.Chars.{codes}
-use Rattle.std.specs.declared.result.Result.{Result}
-use Rattle.std.specs.declared.result.Result.the-variants.{Ok, Err}
+use Rattle.std.specs.declared.result.Result.the-variants.{Err}
 use Rattle.deltas.specs.declared.instruction.Instruction.{Instruction}
 use Rattle.deltas.specs.declared.instruction.Op.the-variants.{Copy, Insert}
-use Rattle.deltas.specs.declared.delta.Head.{Head}
-use Rattle.deltas.specs.declared.fault.DeltaFault.{DeltaFault}
 use Rattle.deltas.specs.declared.fault.DeltaFault.the-variants.{CopyPastSource}
 use Rattle.deltas.specs.Instructions.{instruction}
 use Rattle.deltas.specs.Check.{head, Parts, parts, checked, Lawful}

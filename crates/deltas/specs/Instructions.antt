@@ -1,4 +1,4 @@
-use mathlib.Core.Bool.{Bool, true, false}
+use mathlib.Core.Bool.{Bool, false}
 use Prim.Native.Nat.{ℕ, _+_}
 use lib.Dec.{eqb}
 use Rattle.deltas.specs.declared.instruction.Instruction.{Instruction}

@@ -25,7 +25,7 @@ pub record Stays-inside (U : Type 0) : Type 0 where
 
 -- the normal delta with given origins is lawful, made of longest runs, and has these origins; and it is the only one
 pub record One-normal-form (U : Type 0) : Type 0 where
-  pub is-normal : (s : ℕ) (os : List (Origin U)) → s ≤ 65535 → length os ≤ 65535 → Within s os → Normal (normal s os)
+  pub is-normal : (s : ℕ) (os : List (Origin U)) → length os ≤ 65535 → Within s os → Normal (normal s os)
   pub has-origins : (s : ℕ) (os : List (Origin U)) → origins-of (normal s os) ≡ os
   pub only : (a b : Parts U) → Normal a → Normal b → a .head .source ≡ b .head .source → origins-of a ≡ origins-of b → Same a b
 

@@ -1,5 +1,5 @@
-use mathlib.Core.List.{List, [], _∷_, _++_, map}
-use Prim.Native.Nat.{ℕ, zero, suc, _+_, _<_}
+use mathlib.Core.List.{List, [], _∷_, map}
+use Prim.Native.Nat.{ℕ, zero, suc, _<_}
 use lib.ListN.{length, take, drop, getD}
 use Rattle.std.specs.Joined.{joined}
 use Rattle.deltas.specs.declared.instruction.Instruction.{Instruction}

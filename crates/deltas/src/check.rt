@@ -1,5 +1,5 @@
 ghost use mathlib.Core.Path.{_≡_};
-ghost use Prim.Native.Nat.{_+_, _*_, _^_, _<_, _≤_};
+ghost use Prim.Native.Nat.{_+_, _^_, _<_};
 ghost use Rattle.deltas.specs.Check.{checked, parts-of, stepped};
 use crate::delta::Delta;
 use crate::delta::Head;

@@ -1,5 +1,4 @@
 use native.Mathlib.Omega.{arith}
-use lib.ListN.{length, take}
 use Rattle.std.proofs.shelf.Lists.{take-all}
 use mathlib.Core.Path.{ap}
 use Rattle.deltas.specs.Steps.{total}

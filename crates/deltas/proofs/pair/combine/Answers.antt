@@ -1,18 +1,17 @@
-use mathlib.Core.Path.{_≡_, sym, _∙_, ap, subst}
-use Prim.Native.Nat.{_+_, _-_, _≤_}
+use mathlib.Core.Path.{sym, _∙_, ap, subst}
+use Prim.Native.Nat.{_-_}
 use native.Mathlib.Omega.{arith}
 use lib.ListN.{length, take}
 use Rattle.deltas.specs.Instructions.{blank-instruction}
-use Rattle.deltas.specs.declared.delta.Head.{Head}
-use Rattle.deltas.specs.Check.{parts-of, Lawful}
-use Rattle.deltas.specs.Origins.{origins, inserts}
-use Rattle.deltas.specs.Normal.{runs, normal-head}
-use Rattle.deltas.specs.Combine.{through, combined-origins}
-use Rattle.deltas.specs.Steps.{total, nothing-written, Fits, Appended}
+use Rattle.deltas.specs.Check.{parts-of}
+use Rattle.deltas.specs.Origins.{inserts}
+use Rattle.deltas.specs.Normal.{runs}
+use Rattle.deltas.specs.Combine.{combined-origins}
+use Rattle.deltas.specs.Steps.{Fits}
 use Rattle.std.specs.shelf.Lists.{All}
-use Rattle.std.specs.declared.result.Result.the-variants.{Ok, Err}
+use Rattle.std.specs.declared.result.Result.the-variants.{Ok}
 use Rattle.deltas.proofs.Sound.{passed-any}
-use Rattle.deltas.proofs.Outputs.{Whole, whole, filled, ready, ready-total, ready-few, handed-origins, length-combined, combine-whole, head-is, answer-ok}
+use Rattle.deltas.proofs.Outputs.{filled, ready, ready-total, ready-few, length-combined, combine-whole, head-is, answer-ok}
 use Rattle.deltas.proofs.pair.combine.Needs as need
 
 pub write-combined-written-requires : need.write-combined-written-requires

@@ -1,9 +1,8 @@
-use mathlib.Core.Path.{_≡_, sym, _∙_, ap, subst}
+use mathlib.Core.Path.{sym, _∙_, ap, subst}
 use Prim.Native.Nat.{_+_, _≤_}
 use native.Mathlib.Omega.{arith}
 use lib.ListN.{length, take, drop}
-use Rattle.deltas.specs.Origins.{piece, origins}
-use Rattle.deltas.specs.Combine.{through}
+use Rattle.deltas.specs.Origins.{origins}
 use Rattle.deltas.specs.Steps.{total, Appended}
 use Rattle.deltas.proofs.Sound.{length-origins}
 use Rattle.deltas.proofs.Through.{through-copy, through-insert}

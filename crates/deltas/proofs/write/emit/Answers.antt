@@ -1,7 +1,5 @@
-use mathlib.Core.Path.{sym, ap}
+use mathlib.Core.Path.{sym}
 use native.Mathlib.Omega.{arith}
-use borrow.Author.Needs.{needs}
-use Rattle.deltas.specs.Normal.{extend}
 use Rattle.deltas.proofs.Writes.{last-length, emit-grown, emit-new, emit-first}
 use Rattle.deltas.proofs.write.emit.Needs as need
 

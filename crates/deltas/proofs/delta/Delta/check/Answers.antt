@@ -1,10 +1,9 @@
-use mathlib.Core.Path.{_≡_, sym, _∙_, ap}
+use mathlib.Core.Path.{sym, _∙_, ap}
 use Prim.Native.Nat.{_-_}
 use native.Mathlib.Omega.{arith}
 use lib.ListN.{take, getD}
 use Rattle.std.proofs.shelf.Results.{err-from-errBy}
 use Rattle.std.proofs.shelf.Ways.{tells}
-use Rattle.std.specs.declared.result.Result.the-variants.{Ok, Err}
 use Rattle.deltas.specs.Check.{parts-of, walked}
 use Rattle.deltas.specs.Instructions.{blank-instruction}
 use Rattle.deltas.proofs.Checks.{front-is, checked-walks, checked-ends, walked-on, walked-stops, stepped-bound}

@@ -1,0 +1,3 @@
+pub mod Clients
+pub mod Lines
+pub mod Tables
