@@ -1,6 +1,7 @@
 ghost use mathlib.Core.Path.{_≡_};
 ghost use Rattle.std.specs.Vec.{made};
-ghost use Rattle.sulgheddo.specs.Clients.{kind-of, kept-of};
+ghost use Rattle.sulgheddo.specs.Clients.{kind-of, kept-of, kept-at-first};
+ghost use Rattle.sulgheddo.specs.declared.command.Kind.the-variants.{Byte};
 use crate::command::Kind;
 use crate::entry::ByteEntry;
 use crate::entry::CashflowEntry;
@@ -28,7 +29,9 @@ pub enum Client {
 
 impl Client {
     // What a list begins with.
-    pub fn new(heap: Global) -> Result<Client, AllocError> {
+    pub(crate) fn new(heap: Global) -> Result<Client, AllocError>
+        ensures { λ r. ⌜ made r (λ c. (kind-of c ≡ Byte) × (kept-of c ≡ kept-at-first)) ⌝ }
+    {
         let sizes = Sizes {
             instructions: 65535,
             units: 65535,
@@ -58,14 +61,14 @@ impl Client {
         }
     }
 
-    pub fn tally(&self) -> Tally
+    pub(crate) fn tally(&self) -> Tally
         ensures { λ r. ⌜ r ≡ kept-of (now (self .entry)) .tally ⌝ }
     {
         self.kept().tally
     }
 
     // Carries out a line of the list.
-    pub fn carry_out(&mut self, rt: &LibcRuntime, words: &mut Words<'_>) -> Result<(), LineError> {
+    pub(crate) fn carry_out(&mut self, rt: &LibcRuntime, words: &mut Words<'_>) -> Result<(), LineError> {
         let named = match self {
             Client::Bytes(session) => session.carry_out(rt, words)?,
             Client::Cashflows(session) => session.carry_out(rt, words)?,

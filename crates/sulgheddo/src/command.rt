@@ -30,7 +30,7 @@ pub enum Command<U> {
 
 impl<U: TextUnit> Command<U> {
     // The command of a line's words, or none where the line has none.
-    pub fn read(heap: Global, words: &mut Words<'_>) -> Result<Option<Command<U>>, LineError> {
+    pub(crate) fn read(heap: Global, words: &mut Words<'_>) -> Result<Option<Command<U>>, LineError> {
         let Some(name) = words.next() else {
             return Ok(None);
         };
@@ -85,9 +85,9 @@ fn read_tables<U>(words: &mut Words<'_>) -> Result<Command<U>, LineError> {
 fn read_combine<U: TextUnit>(heap: Global, words: &mut Words<'_>) -> Result<Command<U>, LineError> {
     let earlier = OwnedDelta::read(heap, words)?;
     match words.at() {
-        "then" => {}
-        "" => return Err(LineError::Missing(Field::Then)),
-        _ => return Err(LineError::Unknown),
+        Some("then") => {}
+        Some(_) => return Err(LineError::Unknown),
+        None => return Err(LineError::Missing(Field::Then)),
     }
     let later = read_last_delta(heap, words)?;
     Ok(Command::Combine(earlier, later))
@@ -100,7 +100,7 @@ fn read_last_delta<U: TextUnit>(
 ) -> Result<OwnedDelta<U>, LineError> {
     let delta = OwnedDelta::read(heap, words)?;
     match words.at() {
-        "" => Ok(delta),
-        _ => Err(LineError::Unknown),
+        Some(_) => Err(LineError::Unknown),
+        None => Ok(delta),
     }
 }

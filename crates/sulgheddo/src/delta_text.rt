@@ -31,7 +31,7 @@ pub struct OwnedDelta<U> {
 
 impl<U: TextUnit> OwnedDelta<U> {
     // Reads a delta. The words are then at the first that is no part of it, or at their end.
-    pub fn read(heap: Global, words: &mut Words<'_>) -> Result<OwnedDelta<U>, LineError> {
+    pub(crate) fn read(heap: Global, words: &mut Words<'_>) -> Result<OwnedDelta<U>, LineError> {
         let mut delta = OwnedDelta {
             source: words.number(Field::Source)?,
             target: words.number(Field::Target)?,
@@ -75,7 +75,7 @@ impl<U: TextUnit> OwnedDelta<U> {
     }
 
     // The delta over its tables, which hold nothing else.
-    pub fn lent(&self) -> Delta<'_, '_, U>
+    pub(crate) fn lent(&self) -> Delta<'_, '_, U>
         ensures { λ r. ⌜ parts-of r ≡ delta-of (now (self .entry)) ⌝ }
     {
         self.tables.delta(Head {

@@ -1,6 +1,10 @@
-ghost use Prim.Native.Nat.{_≤_};
-ghost use lib.ListN.{length};
+ghost use mathlib.Core.Bool.{true, false};
+ghost use mathlib.Core.Path.{_≡_};
+ghost use Prim.Native.Nat.{ℕ, _<_, _≤_};
+ghost use lib.ListN.{length, getD, drop};
 ghost use denote.Ref.{now};
+ghost use Rattle.std.specs.Options.{Cases};
+ghost use Rattle.sulgheddo.specs.Runs.{Front};
 use deltas::Instruction;
 use deltas::InstructionPartialEq;
 use deltas::Op;
@@ -82,26 +86,25 @@ impl<T: Entry> Iterator for Runs<'_, T> as RunsIterator {
 
     ghost left = { λ s. length (now (s .rest)) };
 
+    ghost steps = { λ s r t. Cases r (length (now (s .rest)) ≡ 0) (λ run. Front (T·PartialEq .equals) (now (s .rest)) (run .entry) (run .count) × (now (t .rest) ≡ drop (run .count) (now (s .rest)))) };
+
     fn next(&mut self) -> Option<Run<T>> {
         let rest = self.rest;
-        let [entry, others @ ..] = rest else {
-            return None;
-        };
-        let more = equal_front(*entry, others);
-        self.rest = &others[more..];
-        Some(Run {
-            entry: *entry,
-            count: more + 1,
-        })
+        let entry = *rest.first()?;
+        let count = 1 + equal_front(entry, &rest[1..]);
+        self.rest = &rest[count..];
+        Some(Run { entry, count })
     }
 }
 
-// How many entries at the front equal this one.
-fn equal_front<T: Entry>(entry: T, entries: &[T]) -> usize
-    ensures { λ r. ⌜ r ≤ length (now (entries .entry)) ⌝ }
+// How many entries at the front equal this value.
+fn equal_front<T: Entry>(value: T, entries: &[T]) -> usize
+    ensures within { λ r. ⌜ r ≤ length (now (entries .entry)) ⌝ }
+    ensures alike { λ r. ⌜ ((k : ℕ) → k < r → T·PartialEq .equals (getD (now (entries .entry)) k value) value true) ⌝ }
+    ensures stops { λ r. ⌜ (r < length (now (entries .entry)) → T·PartialEq .equals (getD (now (entries .entry)) r value) value false) ⌝ }
 {
     for (i, other) in entries.iter().enumerate() {
-        if *other != entry {
+        if *other != value {
             return i;
         }
     }

@@ -16,10 +16,12 @@ use client::Client;
 use line_error::LineError;
 use line_error::LineErrorDisplay;
 use std::env;
+use std::env::Args;
 use std::fmt::Display;
 use std::fs::File;
 use std::io::BufRead;
 use std::io::BufReader;
+use std::iter::Skip;
 use tally::TallyDisplay;
 use words::Quoted;
 use words::QuotedDisplay;
@@ -29,10 +31,14 @@ use words::Words;
 struct Stopped;
 
 fn main(rt: LibcRuntime) -> Result<(), Stopped> {
+    let files = match env::args(&rt) {
+        Ok(names) => names.skip(1),
+        Err(error) => return Err(stop(&rt, error)),
+    };
     let Ok(mut client) = Client::new(rt.alloc()) else {
         return Err(stop(&rt, "out of memory"));
     };
-    replay(&rt, &mut client)?;
+    replay(&rt, &mut client, files)?;
     let tally = client.tally();
     match println!(rt, "end: {tally}") {
         Ok(()) => Ok(()),
@@ -46,21 +52,17 @@ fn stop(rt: &LibcRuntime, why: impl Display + Drop) -> Stopped {
 }
 
 // Carries out the whole list.
-fn replay(rt: &LibcRuntime, client: &mut Client) -> Result<(), Stopped> {
-    let names = match env::args(rt) {
-        Ok(names) => names.skip(1),
-        Err(error) => return Err(stop(rt, error)),
-    };
+fn replay(rt: &LibcRuntime, client: &mut Client, files: Skip<Args>) -> Result<(), Stopped> {
     let mut lines = 0;
-    let mut files = 0u64;
-    for name in names {
+    let mut from_files = false;
+    for name in files {
         match File::open(rt, name.as_str()) {
             Ok(file) => lines = replay_input(rt, client, lines, BufReader::new(file))?,
             Err(error) => return Err(stop(rt, format_args!("{name}: {error}"))),
         }
-        files = files.saturating_add(1);
+        from_files = true;
     }
-    if files == 0 {
+    if !from_files {
         replay_input(rt, client, lines, BufReader::new(rt.stdin()))?;
     }
     Ok(())
@@ -78,7 +80,10 @@ fn replay_input<B: BufRead + Drop>(
         number = number.saturating_add(1);
         match line {
             Ok(line) => replay_line(rt, client, number, line.as_str())?,
-            Err(error) => return Err(stop_at(rt, number, LineError::Unread(error), "")),
+            Err(error) => {
+                let error = LineError::Unread(error);
+                return Err(stop(rt, format_args!("line {number}: {error}")));
+            }
         }
     }
     Ok(number)
@@ -102,10 +107,12 @@ fn replay_line(
 }
 
 // Says what is wrong with a line, and with which word of it, if it is one.
-fn stop_at(rt: &LibcRuntime, number: u64, error: LineError, word: &str) -> Stopped {
-    if word.is_empty() {
-        return stop(rt, format_args!("line {number}: {error}"));
+fn stop_at(rt: &LibcRuntime, number: u64, error: LineError, word: Option<&str>) -> Stopped {
+    match word {
+        Some(word) => {
+            let word = Quoted(word);
+            stop(rt, format_args!("line {number}: {error}: {word}"))
+        }
+        None => stop(rt, format_args!("line {number}: {error}")),
     }
-    let word = Quoted(word);
-    stop(rt, format_args!("line {number}: {error}: {word}"))
 }

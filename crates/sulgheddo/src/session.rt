@@ -17,7 +17,6 @@ use crate::text_unit::TextUnit;
 use crate::words::Words;
 use deltas::PairFault;
 use deltas::Side;
-use deltas::combine;
 use std::alloc::AllocError;
 use std::alloc::Global;
 use std::fmt;
@@ -41,21 +40,21 @@ pub struct Session<U> {
 
 impl<U: TextUnit> Session<U> {
     // A session with blank tables.
-    pub fn new(heap: Global, kept: Kept) -> Result<Session<U>, AllocError>
+    pub(crate) fn new(heap: Global, kept: Kept) -> Result<Session<U>, AllocError>
         ensures { λ r. ⌜ made r (λ s. (s .kept ≡ kept) × Blank (U·Unit .blank) (kept .sizes) (s .output)) ⌝ }
     {
         let output = OwnedTables::blank(heap, kept.sizes)?;
         Ok(Session { kept, output })
     }
 
-    pub fn kept(&self) -> Kept
+    pub(crate) fn kept(&self) -> Kept
         ensures { λ r. ⌜ r ≡ now (self .entry) .kept ⌝ }
     {
         self.kept
     }
 
     // Carries out a line. Where it names a kind, that is the answer.
-    pub fn carry_out(
+    pub(crate) fn carry_out(
         &mut self,
         rt: &LibcRuntime,
         words: &mut Words<'_>,
@@ -89,13 +88,7 @@ impl<U: TextUnit> Session<U> {
         earlier: &OwnedDelta<U>,
         later: &OwnedDelta<U>,
     ) -> io::Result<()> {
-        let answer = combine(
-            &earlier.lent(),
-            &later.lent(),
-            self.output.instructions.as_mut_slice(),
-            self.output.units.as_mut_slice(),
-        );
-        match answer {
+        match self.output.combine(earlier, later) {
             Ok(head) => {
                 self.kept.tally.accept();
                 let delta = Shown(self.output.delta(head));

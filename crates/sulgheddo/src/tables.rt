@@ -1,9 +1,15 @@
 ghost use mathlib.Core.List.{[]};
 ghost use mathlib.Core.Path.{_≡_};
 ghost use lib.ListN.{replicate};
-ghost use Rattle.std.specs.Of.Vec.{vec-items};
+ghost use Rattle.std.specs.Of.Vec.{vec-items, vec-len};
 ghost use Rattle.std.specs.Vec.{made};
-ghost use Rattle.sulgheddo.specs.Tables.{Blank};
+ghost use Rattle.deltas.specs.Combine.{combined-origins};
+ghost use Rattle.deltas.specs.Instructions.{blank-instruction};
+ghost use Rattle.deltas.specs.Normal.{runs};
+ghost use Rattle.deltas.specs.Origins.{inserts};
+ghost use Rattle.deltas.specs.Outcomes.{combine-answer, left-in};
+ghost use Rattle.sulgheddo.specs.Tables.{Blank, delta-of};
+use crate::delta_text::OwnedDelta;
 use crate::entry::Entries;
 use crate::entry::EntriesDisplay;
 use crate::entry::InstructionEntry;
@@ -11,6 +17,8 @@ use crate::text_unit::TextUnit;
 use deltas::Delta;
 use deltas::Head;
 use deltas::Instruction;
+use deltas::PairFault;
+use deltas::combine;
 use std::alloc::AllocError;
 use std::alloc::Global;
 use std::fmt;
@@ -31,7 +39,7 @@ pub struct OwnedTables<U> {
 
 impl<U: TextUnit> OwnedTables<U> {
     // Tables of no entries.
-    pub fn empty(heap: Global) -> OwnedTables<U>
+    pub(crate) fn empty(heap: Global) -> OwnedTables<U>
         ensures instructions { λ r. ⌜ vec-items (r .instructions) ≡ [] ⌝ }
         ensures units { λ r. ⌜ vec-items (r .units) ≡ [] ⌝ }
     {
@@ -42,7 +50,7 @@ impl<U: TextUnit> OwnedTables<U> {
     }
 
     // Tables of these sizes, all blank.
-    pub fn blank(heap: Global, sizes: Sizes) -> Result<OwnedTables<U>, AllocError>
+    pub(crate) fn blank(heap: Global, sizes: Sizes) -> Result<OwnedTables<U>, AllocError>
         ensures { λ r. ⌜ made r (λ t. Blank (U·Unit .blank) sizes t) ⌝ }
     {
         Ok(OwnedTables {
@@ -51,8 +59,26 @@ impl<U: TextUnit> OwnedTables<U> {
         })
     }
 
+    // Combines two deltas into the tables.
+    pub(crate) fn combine(
+        &mut self,
+        earlier: &OwnedDelta<U>,
+        later: &OwnedDelta<U>,
+    ) -> Result<Head, PairFault>
+        ensures answer { λ r. ⌜ r ≡ combine-answer (delta-of (now (earlier .entry))) (delta-of (now (later .entry))) (vec-len (now (self .entry) .instructions)) (vec-len (now (self .entry) .units)) ⌝ }
+        ensures instructions { λ r. ⌜ vec-items (now (self .exit) .instructions) ≡ left-in r (vec-items (now (self .entry) .instructions)) (runs (combined-origins (delta-of (now (earlier .entry))) (delta-of (now (later .entry))))) blank-instruction ⌝ }
+        ensures units { λ r. ⌜ vec-items (now (self .exit) .units) ≡ left-in r (vec-items (now (self .entry) .units)) (inserts (combined-origins (delta-of (now (earlier .entry))) (delta-of (now (later .entry))))) (U·Unit .blank) ⌝ }
+    {
+        combine(
+            &earlier.lent(),
+            &later.lent(),
+            self.instructions.as_mut_slice(),
+            self.units.as_mut_slice(),
+        )
+    }
+
     // The delta that the tables hold under this head.
-    pub fn delta(&self, head: Head) -> Delta<'_, '_, U>
+    pub(crate) fn delta(&self, head: Head) -> Delta<'_, '_, U>
         ensures head { λ r. ⌜ r .head ≡ head ⌝ }
         ensures instructions { λ r. ⌜ now (r .instructions) ≡ vec-items (now (self .entry) .instructions) ⌝ }
         ensures units { λ r. ⌜ now (r .units) ≡ vec-items (now (self .entry) .units) ⌝ }
@@ -70,7 +96,7 @@ fn filled<T: Copy>(heap: Global, value: T, count: usize) -> Result<Vec<T>, Alloc
     ensures { λ r. ⌜ made r (λ v. vec-items v ≡ replicate count value) ⌝ }
 {
     let mut table = Vec::with_capacity(heap, count)?;
-    for i in 0..count {
+    for _i in 0..count {
         table.push(value)?;
     }
     Ok(table)

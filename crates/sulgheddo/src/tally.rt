@@ -10,7 +10,7 @@ pub struct Tally {
 }
 
 impl Tally {
-    pub fn new() -> Tally
+    pub(crate) fn new() -> Tally
         ensures { λ r. ⌜ r ≡ record { accepted = 0; refused = 0 } ⌝ }
     {
         Tally {
@@ -20,7 +20,7 @@ impl Tally {
     }
 
     // One call more was accepted.
-    pub fn accept(&mut self)
+    pub(crate) fn accept(&mut self)
         ensures accepted { λ _. ⌜ now (self .exit) .accepted ≡ min (now (self .entry) .accepted + 1) (2 ^ 64 - 1) ⌝ }
         ensures refused { λ _. ⌜ now (self .exit) .refused ≡ now (self .entry) .refused ⌝ }
     {
@@ -28,7 +28,7 @@ impl Tally {
     }
 
     // One call more was refused.
-    pub fn refuse(&mut self)
+    pub(crate) fn refuse(&mut self)
         ensures accepted { λ _. ⌜ now (self .exit) .accepted ≡ now (self .entry) .accepted ⌝ }
         ensures refused { λ _. ⌜ now (self .exit) .refused ≡ min (now (self .entry) .refused + 1) (2 ^ 64 - 1) ⌝ }
     {

@@ -72,7 +72,7 @@ fn cashflow_of(text: &str) -> Result<Cashflow, LineError> {
 }
 
 // Adds the units that UNITS stands for to those that there are. A lone minus stands for none.
-pub fn read_units<U: TextUnit>(text: &str, units: &mut Vec<U>) -> Result<(), LineError> {
+pub(crate) fn read_units<U: TextUnit>(text: &str, units: &mut Vec<U>) -> Result<(), LineError> {
     if text == "-" {
         return Ok(());
     }

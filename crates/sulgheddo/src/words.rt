@@ -1,6 +1,6 @@
-ghost use mathlib.Core.List.{[]};
 ghost use mathlib.Core.Path.{_≡_};
 ghost use Prim.Native.Nat.{_≤_};
+ghost use Rattle.std.specs.declared.option.Option.the-variants.{None};
 ghost use Rattle.std.specs.declared.result.Result.the-variants.{Ok};
 ghost use Rattle.std.specs.Vec.{made};
 ghost use Rattle.sulgheddo.specs.Lines.{unread};
@@ -14,28 +14,28 @@ use std::str::FromStr;
 // The words of a line, which spaces part, read from left to right.
 #[derive(Clone, Copy)]
 pub struct Words<'a> {
-    // the word that was read last; empty before the first word and after the last
-    at: &'a str,
+    // the word that was read last; none before the first word and after the last
+    at: Option<&'a str>,
     rest: &'a str,
 }
 
 impl<'a> Words<'a> {
-    pub fn new(line: &'a str) -> Words<'a>
-        ensures at { λ r. ⌜ now (r .at) ≡ [] ⌝ }
+    pub(crate) fn new(line: &'a str) -> Words<'a>
+        ensures at { λ r. ⌜ r .at ≡ None ⌝ }
         ensures rest { λ r. ⌜ now (r .rest) ≡ now (line .entry) ⌝ }
     {
-        Words { at: "", rest: line }
+        Words { at: None, rest: line }
     }
 
-    // The word that was read last.
-    pub fn at(&self) -> &'a str
-        ensures { λ r. ⌜ now r ≡ now (now (self .entry) .at) ⌝ }
+    // The word that was read last; none at either end of the line.
+    pub(crate) fn at(&self) -> Option<&'a str>
+        ensures { λ r. ⌜ r ≡ now (self .entry) .at ⌝ }
     {
         self.at
     }
 
     // The next word, which says this.
-    pub fn word(&mut self, field: Field) -> Result<&'a str, LineError>
+    pub(crate) fn word(&mut self, field: Field) -> Result<&'a str, LineError>
         ensures { λ _. ⌜ unread (now (self .exit)) ≤ unread (now (self .entry)) ⌝ }
     {
         match self.next() {
@@ -45,14 +45,14 @@ impl<'a> Words<'a> {
     }
 
     // The next word as a number.
-    pub fn number<N: FromStr<Err = ParseIntError>>(&mut self, field: Field) -> Result<N, LineError>
+    pub(crate) fn number<N: FromStr<Err = ParseIntError>>(&mut self, field: Field) -> Result<N, LineError>
         ensures { λ _. ⌜ unread (now (self .exit)) ≤ unread (now (self .entry)) ⌝ }
     {
         number(field, self.word(field)?)
     }
 
     // Refuses a word more.
-    pub fn end(&mut self) -> Result<(), LineError>
+    pub(crate) fn end(&mut self) -> Result<(), LineError>
         ensures { λ _. ⌜ unread (now (self .exit)) ≤ unread (now (self .entry)) ⌝ }
     {
         match self.next() {
@@ -74,18 +74,18 @@ pub impl<'a> Iterator for Words<'a> as WordsIterator {
     fn next(&mut self) -> Option<&'a str> {
         let rest = self.rest.trim_start_matches(' ');
         if rest.is_empty() {
-            self.at = "";
+            self.at = None;
             return None;
         }
         let (word, rest) = rest.split_once(' ').unwrap_or((rest, ""));
-        self.at = word;
+        self.at = Some(word);
         self.rest = rest;
         Some(word)
     }
 }
 
 // A number in decimal digits, with no plus. A minus stands only before a number that may be below 0.
-pub fn number<N: FromStr<Err = ParseIntError>>(field: Field, word: &str) -> Result<N, LineError>
+pub(crate) fn number<N: FromStr<Err = ParseIntError>>(field: Field, word: &str) -> Result<N, LineError>
     ensures { λ r. ⌜ made r (λ n. N·FromStr .reads (now (word .entry)) (Ok n)) ⌝ }
 {
     if word.starts_with('+') {
@@ -102,6 +102,9 @@ pub fn number<N: FromStr<Err = ParseIntError>>(field: Field, word: &str) -> Resu
     }
 }
 
+// How many characters of a word are quoted.
+const QUOTED: usize = 40;
+
 // A word as an error quotes it: escaped, so that it stays on one line, and cut where it is long.
 #[derive(Clone, Copy)]
 pub struct Quoted<'a>(pub &'a str);
@@ -109,14 +112,11 @@ pub struct Quoted<'a>(pub &'a str);
 pub impl fmt::Display for Quoted<'_> as QuotedDisplay {
     fn fmt<W: fmt::Write>(&self, f: &mut fmt::Formatter<W>) -> fmt::Result {
         f.write_str("'")?;
-        for c in self.0.chars().take(40) {
+        for c in self.0.chars().take(QUOTED) {
             let c = c.escape_debug();
             write!(f, "{c}")?;
         }
-        f.write_str(if self.0.chars().count() > 40 {
-            "..'"
-        } else {
-            "'"
-        })
+        let is_cut = self.0.chars().count() > QUOTED;
+        f.write_str(if is_cut { "..'" } else { "'" })
     }
 }

@@ -7,16 +7,16 @@ use deltas::Op;
 use units::Layer;
 use units::Refusal;
 
-pub fn copy(from: u16, length: u16) -> Instruction {
+pub(crate) fn copy(from: u16, length: u16) -> Instruction {
     Instruction::new(Op::Copy, from, length)
 }
 
-pub fn insert(from: u16, length: u16) -> Instruction {
+pub(crate) fn insert(from: u16, length: u16) -> Instruction {
     Instruction::new(Op::Insert, from, length)
 }
 
 // A delta whose counts are its tables' lengths.
-pub fn delta<'i, 'u>(
+pub(crate) fn delta<'i, 'u>(
     source: u16,
     target: u16,
     instructions: &'i [Instruction],
@@ -35,7 +35,7 @@ pub fn delta<'i, 'u>(
     }
 }
 
-pub fn refusal(number: u8, layer: Layer, place: usize) -> Refusal {
+pub(crate) fn refusal(number: u8, layer: Layer, place: usize) -> Refusal {
     Refusal {
         number,
         layer,

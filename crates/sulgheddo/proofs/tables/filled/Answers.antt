@@ -9,4 +9,4 @@ pub loop-i-again : need.loop-i-again
 loop-i-again g c =
     chosen _ _ _ _ (c .push .ensures .items) (ap isOk (c .in-Continue-push .was tt))
     ∙ ap (λ l. l ++ c .args .value ∷ []) (c .loop-i .inv)
-    ∙ replicate-more (c .loop-i .i) (c .args .value)
+    ∙ replicate-more (c .loop-i .-i) (c .args .value)

@@ -4,4 +4,4 @@ use Rattle.std.specs.Of.Vec.{vec-items}
 use Rattle.sulgheddo.proofs.tables.filled.Given as given
 
 abbrev pub Inv-loop-i : given.InvT-loop-i
-Inv-loop-i g l = vec-items (l .table) ≡ replicate (l .i) (l .value)
+Inv-loop-i g l = vec-items (l .table) ≡ replicate (l .-i) (l .value)
