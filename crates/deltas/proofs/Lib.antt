@@ -4,8 +4,8 @@ pub mod Sound
 pub mod Writes
 pub mod Pieces
 pub mod Through
-pub mod Outputs
 pub mod NormalForm
 pub mod Composing
 pub mod Theorems
 pub mod Replacing
+pub mod Outputs

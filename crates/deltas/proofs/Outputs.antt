@@ -1,5 +1,5 @@
 -- What the calls that write a delta into two output tables answer, and what they leave there.
-use mathlib.Core.Path.{_≡_, sym, ap, subst, _∙_}
+use mathlib.Core.Path.{_≡_, refl, sym, ap, subst, _∙_}
 use mathlib.Core.List.{List, _++_}
 use mathlib.Core.Logic.{_⊎_}
 use Prim.Native.Nat.{ℕ, _+_, _-_, _≤_, _<_}
@@ -7,7 +7,7 @@ use native.Mathlib.Nat.{sub-zero}
 use native.Mathlib.Omega.{arith}
 use lib.ListN.{length, take, replicate}
 use Rattle.std.proofs.shelf.Ways.{tells}
-use Rattle.std.proofs.shelf.Lists.{length-take, length-take-le, length-map}
+use Rattle.std.proofs.shelf.Lists.{length-take, length-take-le, length-append, take-at}
 use Rattle.std.proofs.shelf.Elements.{all-weaker}
 use Rattle.std.specs.shelf.Lists.{All}
 use Rattle.std.specs.declared.result.Result.the-variants.{Ok, Err}
@@ -18,14 +18,15 @@ use Rattle.deltas.specs.declared.delta.Head.{Head}
 use Rattle.deltas.specs.declared.write.Written.{Written}
 use Rattle.deltas.specs.declared.fault.NormalFault.the-variants as norm
 use Rattle.deltas.specs.declared.fault.PairFault.the-variants as pair
-use Rattle.deltas.specs.Check.{head, Parts, checked, Lawful, instructions-of, units-of}
-use Rattle.deltas.specs.Origins.{Origin, origins, origins-of, inserts}
-use Rattle.deltas.specs.Normal.{runs, normal-head}
-use Rattle.deltas.specs.Combine.{origin-through, through, combined-origins}
-use Rattle.deltas.specs.Outcomes.{combine-answer, normal-answer}
+use Rattle.deltas.specs.Check.{head, Parts, parts, checked, Lawful, instructions-of, units-of}
+use Rattle.deltas.specs.Origins.{Origin, origins, origins-of, inserts, Within}
+use Rattle.deltas.specs.Normal.{Normal, runs, normal-head}
+use Rattle.deltas.specs.Combine.{through, combined-origins}
+use Rattle.deltas.specs.Outcomes.{combine-answer, normal-answer, Holds}
 use Rattle.deltas.specs.Steps.{total, nothing-written, Inside, Fits, Appended}
 use Rattle.deltas.proofs.Runs.{length-inserts}
-use Rattle.deltas.proofs.Sound.{passed, lawful-fits, length-origins}
+use Rattle.deltas.proofs.Sound.{passed, lawful-fits}
+use Rattle.deltas.proofs.Theorems.{length-target, length-combined, origins-in-tables, normal-in-tables}
 
 -- two output tables from their first entries on: the runs and the units of some origins, and nothing else is counted
 pub record Whole {U : Type 0} (os : List (Origin U)) (out : List Instruction) (us : List U) (w : Written) : Type 0 where
@@ -79,15 +80,6 @@ ready-few d l = omega (arith, length-take (d .head .inserted - 0) (d .units), pa
 pub handed-origins : {U : Type 0} (d : Parts U) → origins (take (d .head .inserted - 0) (d .units)) (take (d .head .instructions - 0) (d .table)) ≡ origins-of d
 handed-origins d = simp sub-zero
 
-pub length-origins-of : {U : Type 0} (d : Parts U) → Lawful d → length (origins-of d) ≡ d .head .target
-length-origins-of d l =
-    let p = passed d l in
-    let m : d .head .inserted ≤ length (units-of d) = omega (arith, length-take (d .head .inserted) (d .units), p .inserted) in
-    length-origins (d .head .source) (d .head .inserted) (units-of d) (instructions-of d) (lawful-fits d l) m ∙ p .target
-
-pub length-combined : {U : Type 0} (a b : Parts U) → Lawful b → length (combined-origins a b) ≡ b .head .target
-length-combined a b l = length-map (origins-of b) (origin-through (origins-of a)) ∙ length-origins-of b l
-
 -- the answers of combine, one after another
 module _ {U : Type 0} (a b : Parts U) (i u : ℕ) (g h : Head) (p : Ok g ≡ checked a) (q : Ok h ≡ checked b) where
   pub answer-lengths : (a .head .target ≡ b .head .source → ⊥) → Err (pair.Lengths (b .head .source)) ≡ combine-answer a b i u
@@ -121,5 +113,18 @@ module _ {U : Type 0} (d : Parts U) (i u : ℕ) (h : Head) (p : Ok h ≡ checked
 -- what normalising wrote, as it is handed the delta
 pub normal-whole : {U : Type 0} (d : Parts U) (out out′ : List Instruction) (us us′ : List U) (w : Written) → Lawful d → Appended (origins (take (d .head .inserted - 0) (d .units)) (take (d .head .instructions - 0) (d .table))) out us nothing-written out′ us′ w → d .head .target ≤ length out′ → d .head .target ≤ length us′ → Whole (origins-of d) out′ us′ w
 normal-whole d out out′ us us′ w l h i u =
-    let n = length-origins-of d l in
+    let n = length-target d l in
     whole (origins-of d) out out′ us us′ w (subst (λ os. Appended os out us nothing-written out′ us′ w) (handed-origins d) h) (omega arith) (omega arith)
+
+-- the normal delta at the front of two tables, whatever stands behind it
+pub holds : {U : Type 0} (s : ℕ) (os : List (Origin U)) (h : Head) (is rest : List Instruction) (us others : List U) → h ≡ normal-head s os → is ≡ runs os ++ rest → us ≡ inserts os ++ others → length os ≤ 65535 → Within s os → Holds h is us s os
+holds s os h is rest us others e i u l w =
+    let front : take (length (runs os)) is ≡ runs os = ap (take (length (runs os))) i ∙ take-at (runs os) rest (length (runs os)) refl in
+    let own : take (length (inserts os)) us ≡ inserts os = ap (take (length (inserts os))) u ∙ take-at (inserts os) others (length (inserts os)) refl in
+    let long : length (runs os) ≤ length is = omega (arith, ap length i, length-append (runs os) rest) in
+    let many : length (inserts os) ≤ length us = omega (arith, ap length u, length-append (inserts os) others) in
+    record {
+      is-normal = subst (λ g. Normal (parts g is us)) (sym e) (normal-in-tables s os is us front own long many l w);
+      over-source = ap (λ g. g .source) e;
+      has-origins = ap (λ g. origins-of (parts g is us)) e ∙ origins-in-tables s os is us front own;
+    }

@@ -2,13 +2,14 @@ use mathlib.Core.Path.{_≡_, refl, sym, _∙_, ap, subst}
 use mathlib.Core.List.{List, []}
 use Prim.Native.Nat.{ℕ, _≤_}
 use native.Mathlib.Omega.{arith}
-use lib.ListN.{length}
+use lib.ListN.{length, take}
 use lib.Seq.{take-length, take-all, length-take-le}
 use Rattle.std.proofs.shelf.Lists.{length-map}
+use Rattle.deltas.specs.declared.instruction.Instruction.{Instruction}
 use Rattle.deltas.specs.declared.delta.Head.{Head}
-use Rattle.deltas.specs.Check.{Parts, Lawful, instructions-of, units-of}
-use Rattle.deltas.specs.Origins.{Origin, origins-of, inserts, Within, applied}
-use Rattle.deltas.specs.Normal.{Longest, Normal, runs, normal}
+use Rattle.deltas.specs.Check.{Parts, parts, Lawful, instructions-of, units-of}
+use Rattle.deltas.specs.Origins.{Origin, origins, origins-of, inserts, Within, applied}
+use Rattle.deltas.specs.Normal.{Longest, Normal, runs, normal-head, normal}
 use Rattle.deltas.specs.Combine.{Meet, origin-through, through, combined-origins}
 use Rattle.deltas.specs.Steps.{total}
 use Rattle.deltas.specs.Laws.{Same, Stays-inside, One-normal-form, Fewest, Combined-is-normal, Associative, Applies}
@@ -62,28 +63,44 @@ module _ {U : Type 0} where
       let e = apart-decides (a .head .source) 0 (instructions-of a) (passed a (n .0) .sound) .1 (n .1) in
       sym (runs-extends a (n .0) ∙ extends-apart [] (instructions-of a) e)
 
-  -- The normal delta with given origins.
+  -- The normal delta with given origins, at the front of two tables.
+
+  module _ (s : ℕ) (os : List (Origin U)) (is : List Instruction) (us : List U) (front : take (length (runs os)) is ≡ runs os) (own : take (length (inserts os)) us ≡ inserts os) where
+    pub origins-in-tables : origins-of (parts (normal-head s os) is us) ≡ os
+    origins-in-tables = ap (λ js. origins (take (length (inserts os)) us) js) front ∙ ap (λ vs. origins vs (runs os)) own ∙ origins-runs (inserts os) [] 0 os refl
+
+    -- it is normal, over a source of any length
+    pub normal-in-tables : length (runs os) ≤ length is → length (inserts os) ≤ length us → length os ≤ 65535 → Within s os → Normal (parts (normal-head s os) is us)
+    normal-in-tables i u l w =
+        let whole : runs os ≡ take (length (runs os)) is = sym front in
+        let sound : Sound s 0 (runs os) = sound-runs s [] os tt w in
+        let longest : Longest (runs os) = apart-decides s 0 (runs os) sound .0 (apart-runs [] 0 os refl) in (
+          lawful (parts (normal-head s os) is us) (record {
+            instructions = i;
+            few = omega (arith, length-runs [] 0 os);
+            inserted = u;
+            small = omega (arith, length-inserts os);
+            sound = subst (λ js. Sound s 0 js) whole sound;
+            target = sym (ap total whole) ∙ total-runs [] 0 os ∙ omega arith;
+            count = sym (ap inserted-in whole) ∙ inserted-runs [] 0 os ∙ omega arith;
+          }),
+          subst (λ js. Longest js) whole longest,
+        )
+
+  -- and in tables that hold nothing else
 
   pub origins-normal : (s : ℕ) (os : List (Origin U)) → origins-of (normal s os) ≡ os
-  origins-normal s os = simp take-length (origins-runs (inserts os) [] 0 os refl)
+  origins-normal s os = origins-in-tables s os (runs os) (inserts os) (take-length (runs os)) (take-length (inserts os))
 
-  -- it is normal, over a source of any length
   pub normal-is-normal : (s : ℕ) (os : List (Origin U)) → length os ≤ 65535 → Within s os → Normal (normal s os)
-  normal-is-normal s os l w =
-      let whole : runs os ≡ instructions-of (normal s os) = sym (take-length (runs os)) in
-      let sound : Sound s 0 (runs os) = sound-runs s [] os tt w in
-      let longest : Longest (runs os) = apart-decides s 0 (runs os) sound .0 (apart-runs [] 0 os refl) in (
-        lawful (normal s os) (record {
-          instructions = omega arith;
-          few = omega (arith, length-runs [] 0 os);
-          inserted = omega arith;
-          small = omega (arith, length-inserts os);
-          sound = subst (λ is. Sound s 0 is) whole sound;
-          target = sym (ap total whole) ∙ total-runs [] 0 os ∙ omega arith;
-          count = sym (ap inserted-in whole) ∙ inserted-runs [] 0 os ∙ omega arith;
-        }),
-        subst (λ is. Longest is) whole longest,
-      )
+  normal-is-normal s os l w = normal-in-tables s os (runs os) (inserts os) (take-length (runs os)) (take-length (inserts os)) (omega arith) (omega arith) l w
+
+  -- what two lawful deltas that meet copy lies in the earlier source
+  pub within-combined : (a b : Parts U) → Lawful a → Lawful b → Meet a b → Within (a .head .source) (combined-origins a b)
+  within-combined a b la lb m = within-through (a .head .source) (origins-of a) (origins-of b) (within-origins a la) (within-pair a b la lb m)
+
+  pub length-combined : (a b : Parts U) → Lawful b → length (combined-origins a b) ≡ b .head .target
+  length-combined a b l = length-map (origins-of b) (origin-through (origins-of a)) ∙ length-target b l
 
   only-one : (a b : Parts U) → Normal a → Normal b → a .head .source ≡ b .head .source → origins-of a ≡ origins-of b → Same a b
   only-one a b na nb s o =
@@ -111,10 +128,7 @@ fewest U a b n l o =
 
 pub combined-is-normal : (U : Type 0) → Combined-is-normal U
 combined-is-normal U = record {
-  is-normal = λ a b la lb m t.
-      let e : length (combined-origins a b) ≡ b .head .target = length-map (origins-of b) (origin-through (origins-of a)) ∙ length-target b lb in
-      normal-is-normal (a .head .source) (combined-origins a b) (omega arith)
-      (within-through (a .head .source) (origins-of a) (origins-of b) (within-origins a la) (within-pair a b la lb m));
+  is-normal = λ a b la lb m t. let e = length-combined a b lb in normal-is-normal (a .head .source) (combined-origins a b) (omega arith) (within-combined a b la lb m);
   has-origins = λ a b. origins-normal (a .head .source) (combined-origins a b);
 }
 

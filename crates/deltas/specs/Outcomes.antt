@@ -1,3 +1,4 @@
+use mathlib.Core.Path.{_≡_}
 use mathlib.Core.List.{List, _++_}
 use mathlib.Core.Bool.{Bool, cond, _||_}
 use Prim.Native.Nat.{ℕ, _-_}
@@ -5,6 +6,7 @@ use lib.Dec.{eqb, ltb}
 use lib.ListN.{length, replicate}
 use Rattle.std.specs.declared.result.Result.{Result}
 use Rattle.std.specs.declared.result.Result.the-variants.{Ok, Err}
+use Rattle.deltas.specs.declared.instruction.Instruction.{Instruction}
 use Rattle.deltas.specs.declared.delta.Head.{Head}
 use Rattle.deltas.specs.declared.fault.DeltaFault.{DeltaFault}
 use Rattle.deltas.specs.declared.fault.PairFault.{PairFault}
@@ -12,9 +14,9 @@ use Rattle.deltas.specs.declared.fault.PairFault.the-variants as pair
 use Rattle.deltas.specs.declared.fault.NormalFault.{NormalFault}
 use Rattle.deltas.specs.declared.fault.NormalFault.the-variants as norm
 use Rattle.deltas.specs.declared.fault.Side.the-variants.{Earlier, Later}
-use Rattle.deltas.specs.Check.{Parts, checked}
-use Rattle.deltas.specs.Origins.{origins-of}
-use Rattle.deltas.specs.Normal.{normal-head}
+use Rattle.deltas.specs.Check.{Parts, parts, checked}
+use Rattle.deltas.specs.Origins.{Origin, origins-of}
+use Rattle.deltas.specs.Normal.{Normal, normal-head}
 use Rattle.deltas.specs.Combine.{combined-origins}
 
 -- Answers of the calls that write a delta into two output tables, and what the tables then hold.
@@ -28,6 +30,12 @@ short need i u = ltb i need || ltb u need
 abbrev pub left-in : {E A : Type 0} → Result Head E → List A → List A → A → List A
 left-in (Ok h) before entries blank = entries ++ replicate (length before - length entries) blank
 left-in (Err f) before entries blank = before
+
+-- what two tables hold under a head: a normal delta over a source of s units, with these origins
+pub record Holds {U : Type 0} (h : Head) (is : List Instruction) (us : List U) (s : ℕ) (os : List (Origin U)) : Type 0 where
+  pub is-normal : Normal (parts h is us)
+  pub over-source : h .source ≡ s
+  pub has-origins : origins-of (parts h is us) ≡ os
 
 -- the answer of a call, once its delta passed the check
 abbrev pub after-check : Result Head DeltaFault → Result Head NormalFault → Result Head NormalFault

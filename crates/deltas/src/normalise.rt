@@ -8,7 +8,8 @@ ghost use Rattle.deltas.specs.Instructions.{blank-instruction};
 ghost use Rattle.deltas.specs.Check.{parts-of};
 ghost use Rattle.deltas.specs.Origins.{origins, origins-of, inserts};
 ghost use Rattle.deltas.specs.Normal.{runs, all-apart, Normal};
-ghost use Rattle.deltas.specs.Outcomes.{normal-answer, left-in};
+ghost use Rattle.deltas.specs.Outcomes.{normal-answer, left-in, Holds};
+ghost use Rattle.std.specs.Vec.{made};
 ghost use Rattle.deltas.specs.Steps.{total, nothing-written, Fits, Space, Appended};
 use crate::delta::Delta;
 use crate::delta::Head;
@@ -77,6 +78,7 @@ impl<U: Unit> Delta<'_, '_, U> {
         ensures answer { λ r. ⌜ r ≡ normal-answer (parts-of (now (self .entry))) (length (now («out_instructions» .entry))) (length (now («out_units» .entry))) ⌝ }
         ensures instructions { λ r. ⌜ now («out_instructions» .exit) ≡ left-in r (now («out_instructions» .entry)) (runs (origins-of (parts-of (now (self .entry))))) blank-instruction ⌝ }
         ensures units { λ r. ⌜ now («out_units» .exit) ≡ left-in r (now («out_units» .entry)) (inserts (origins-of (parts-of (now (self .entry))))) blank ⌝ }
+        ensures meaning { λ r. ⌜ made r (λ h. Holds h (now («out_instructions» .exit)) (now («out_units» .exit)) (now (self .entry) .head .source) (origins-of (parts-of (now (self .entry))))) ⌝ }
     {
         self.check()?;
         let head = self.head;

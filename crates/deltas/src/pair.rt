@@ -8,7 +8,9 @@ ghost use Rattle.deltas.specs.Check.{parts-of};
 ghost use Rattle.deltas.specs.Origins.{piece, origins, inserts};
 ghost use Rattle.deltas.specs.Normal.{runs};
 ghost use Rattle.deltas.specs.Combine.{through, combined-origins};
-ghost use Rattle.deltas.specs.Outcomes.{combine-answer, left-in};
+ghost use Rattle.deltas.specs.Outcomes.{combine-answer, left-in, Holds};
+ghost use Rattle.deltas.specs.Replace.{replace-origins};
+ghost use Rattle.std.specs.Vec.{made};
 ghost use Rattle.deltas.specs.Steps.{total, nothing-written, Fits, Space, Appended, Standing};
 use crate::delta::Delta;
 use crate::delta::Head;
@@ -117,6 +119,7 @@ pub fn combine<U: Unit>(
     ensures answer { λ r. ⌜ r ≡ combine-answer (parts-of (now (earlier .entry))) (parts-of (now (later .entry))) (length (now («out_instructions» .entry))) (length (now («out_units» .entry))) ⌝ }
     ensures instructions { λ r. ⌜ now («out_instructions» .exit) ≡ left-in r (now («out_instructions» .entry)) (runs (combined-origins (parts-of (now (earlier .entry))) (parts-of (now (later .entry))))) blank-instruction ⌝ }
     ensures units { λ r. ⌜ now («out_units» .exit) ≡ left-in r (now («out_units» .entry)) (inserts (combined-origins (parts-of (now (earlier .entry))) (parts-of (now (later .entry))))) blank ⌝ }
+    ensures meaning { λ r. ⌜ made r (λ h. Holds h (now («out_instructions» .exit)) (now («out_units» .exit)) (now (earlier .entry) .head .source) (replace-origins (parts-of (now (earlier .entry))) (parts-of (now (later .entry))))) ⌝ }
 {
     match earlier.check() {
         Ok(_) => {}

@@ -11,7 +11,10 @@ use Rattle.deltas.specs.Steps.{Fits}
 use Rattle.std.specs.shelf.Lists.{All}
 use Rattle.std.specs.declared.result.Result.the-variants.{Ok}
 use Rattle.deltas.proofs.Sound.{passed-any}
-use Rattle.deltas.proofs.Outputs.{filled, ready, ready-total, ready-few, length-combined, combine-whole, head-is, answer-ok}
+use Rattle.deltas.proofs.Outputs.{filled, ready, ready-total, ready-few, combine-whole, head-is, answer-ok, holds}
+use Rattle.deltas.proofs.Replacing.{combining-is-replace}
+use Rattle.deltas.proofs.Theorems.{length-combined, within-combined}
+use Rattle.deltas.specs.Outcomes.{Holds}
 use Rattle.deltas.proofs.pair.combine.Needs as need
 
 pub write-combined-written-requires : need.write-combined-written-requires
@@ -42,11 +45,18 @@ returns g c =
     let w = c .write-combined-written .result in
     let out = c .write-combined-written .last .out in
     let us = c .write-combined-written .last .units in
+    let la = passed-any a _ (sym (c .in-Ok .ensures tt)) in
     let lb = passed-any b _ (sym (c .in-Ok-check .ensures tt)) in
+    let long = length-combined a b lb in
     let done = combine-whole a b (c .args .out-instructions .now) out (c .args .out-units .now) us w lb (c .write-combined-written .ensures) (omega arith) (omega arith) in
+    let head = c .finish .ensures .head ∙ head-is os (a .head .source) (b .head .target) (w .instructions) (w .inserted) (sym long) (done .count) (done .inserted) in
+    let table = c .finish .ensures .instructions ∙ filled (c .args .out-instructions .now) out (runs os) (w .instructions) blank-instruction (done .instructions) (done .count) (omega arith) in
+    let own = c .finish .ensures .units ∙ filled (c .args .out-units .now) us (inserts os) (w .inserted) (g .U·Unit .blank) (done .units) (done .inserted) (omega arith) in
     record {
-      answer = ap Ok (c .finish .ensures .head ∙ head-is os (a .head .source) (b .head .target) (w .instructions) (w .inserted) (sym (length-combined a b lb)) (done .count) (done .inserted))
+      answer = ap Ok head
           ∙ answer-ok a b (length (c .args .out-instructions .now)) (length (c .args .out-units .now)) _ _ (c .in-Ok .ensures tt) (c .in-Ok-check .ensures tt) (c .if-first-second .left) (omega arith) (omega arith);
-      instructions = c .finish .ensures .instructions ∙ filled (c .args .out-instructions .now) out (runs os) (w .instructions) blank-instruction (done .instructions) (done .count) (omega arith);
-      units = c .finish .ensures .units ∙ filled (c .args .out-units .now) us (inserts os) (w .inserted) (g .U·Unit .blank) (done .units) (done .inserted) (omega arith);
+      instructions = table;
+      units = own;
+      meaning = subst (λ ps. Holds (c .finish .result) (c .finish .last .out) (c .finish .last .units) (a .head .source) ps) (sym (combining-is-replace _ a b la lb (c .if-first-second .left) .0))
+          (holds (a .head .source) os (c .finish .result) (c .finish .last .out) _ (c .finish .last .units) _ head table own (omega arith) (within-combined a b la lb (c .if-first-second .left)));
     }

@@ -6,8 +6,9 @@ use Rattle.deltas.specs.Instructions.{blank-instruction}
 use Rattle.deltas.specs.Check.{parts-of}
 use Rattle.deltas.specs.Origins.{origins-of, inserts}
 use Rattle.deltas.specs.Normal.{runs}
-use Rattle.deltas.proofs.Sound.{passed-any}
-use Rattle.deltas.proofs.Outputs.{filled, ready, ready-total, length-origins-of, normal-whole, head-is, normal-ok}
+use Rattle.deltas.proofs.Sound.{passed-any, within-origins}
+use Rattle.deltas.proofs.Outputs.{filled, ready, ready-total, normal-whole, head-is, normal-ok, holds}
+use Rattle.deltas.proofs.Theorems.{length-target}
 use Rattle.deltas.proofs.delta.Delta.normalise.Needs as need
 
 pub write-runs-written-requires : need.write-runs-written-requires
@@ -35,10 +36,14 @@ returns g c =
     let out = c .write-runs-written .last .out in
     let us = c .write-runs-written .last .units in
     let lawful = passed-any d _ (sym (c .in-Continue-check .ensures tt)) in
+    let long = length-target d lawful in
     let done = normal-whole d (c .args .out-instructions .now) out (c .args .out-units .now) us w lawful (c .write-runs-written .ensures) (omega arith) (omega arith) in
+    let head = c .finish .ensures .head ∙ head-is os (d .head .source) (d .head .target) (w .instructions) (w .inserted) (sym long) (done .count) (done .inserted) in
+    let table = c .finish .ensures .instructions ∙ filled (c .args .out-instructions .now) out (runs os) (w .instructions) blank-instruction (done .instructions) (done .count) (omega arith) in
+    let own = c .finish .ensures .units ∙ filled (c .args .out-units .now) us (inserts os) (w .inserted) (g .U·Unit .blank) (done .units) (done .inserted) (omega arith) in
     record {
-      answer = ap Ok (c .finish .ensures .head ∙ head-is os (d .head .source) (d .head .target) (w .instructions) (w .inserted) (sym (length-origins-of d lawful)) (done .count) (done .inserted))
-          ∙ normal-ok d (length (c .args .out-instructions .now)) (length (c .args .out-units .now)) _ (c .in-Continue-check .ensures tt) (omega arith) (omega arith);
-      instructions = c .finish .ensures .instructions ∙ filled (c .args .out-instructions .now) out (runs os) (w .instructions) blank-instruction (done .instructions) (done .count) (omega arith);
-      units = c .finish .ensures .units ∙ filled (c .args .out-units .now) us (inserts os) (w .inserted) (g .U·Unit .blank) (done .units) (done .inserted) (omega arith);
+      answer = ap Ok head ∙ normal-ok d (length (c .args .out-instructions .now)) (length (c .args .out-units .now)) _ (c .in-Continue-check .ensures tt) (omega arith) (omega arith);
+      instructions = table;
+      units = own;
+      meaning = holds (d .head .source) os (c .finish .result) (c .finish .last .out) _ (c .finish .last .units) _ head table own (omega arith) (within-origins d lawful);
     }
