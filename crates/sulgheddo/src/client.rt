@@ -68,7 +68,11 @@ impl Client {
     }
 
     // Carries out a line of the list.
-    pub(crate) fn carry_out(&mut self, rt: &LibcRuntime, words: &mut Words<'_>) -> Result<(), LineError> {
+    pub(crate) fn carry_out(
+        &mut self,
+        rt: &LibcRuntime,
+        words: &mut Words<'_>,
+    ) -> Result<(), LineError> {
         let named = match self {
             Client::Bytes(session) => session.carry_out(rt, words)?,
             Client::Cashflows(session) => session.carry_out(rt, words)?,

@@ -30,7 +30,10 @@ pub enum Command<U> {
 
 impl<U: TextUnit> Command<U> {
     // The command of a line's words, or none where the line has none.
-    pub(crate) fn read(heap: Global, words: &mut Words<'_>) -> Result<Option<Command<U>>, LineError> {
+    pub(crate) fn read(
+        heap: Global,
+        words: &mut Words<'_>,
+    ) -> Result<Option<Command<U>>, LineError> {
         let Some(name) = words.next() else {
             return Ok(None);
         };

@@ -24,7 +24,10 @@ impl<'a> Words<'a> {
         ensures at { λ r. ⌜ r .at ≡ None ⌝ }
         ensures rest { λ r. ⌜ now (r .rest) ≡ now (line .entry) ⌝ }
     {
-        Words { at: None, rest: line }
+        Words {
+            at: None,
+            rest: line,
+        }
     }
 
     // The word that was read last; none at either end of the line.
@@ -45,7 +48,10 @@ impl<'a> Words<'a> {
     }
 
     // The next word as a number.
-    pub(crate) fn number<N: FromStr<Err = ParseIntError>>(&mut self, field: Field) -> Result<N, LineError>
+    pub(crate) fn number<N: FromStr<Err = ParseIntError>>(
+        &mut self,
+        field: Field,
+    ) -> Result<N, LineError>
         ensures { λ _. ⌜ unread (now (self .exit)) ≤ unread (now (self .entry)) ⌝ }
     {
         number(field, self.word(field)?)
@@ -85,7 +91,10 @@ pub impl<'a> Iterator for Words<'a> as WordsIterator {
 }
 
 // A number in decimal digits, with no plus. A minus stands only before a number that may be below 0.
-pub(crate) fn number<N: FromStr<Err = ParseIntError>>(field: Field, word: &str) -> Result<N, LineError>
+pub(crate) fn number<N: FromStr<Err = ParseIntError>>(
+    field: Field,
+    word: &str,
+) -> Result<N, LineError>
     ensures { λ r. ⌜ made r (λ n. N·FromStr .reads (now (word .entry)) (Ok n)) ⌝ }
 {
     if word.starts_with('+') {

@@ -1,3 +1,5 @@
+ghost use Rattle.std.specs.declared.option.Option.the-variants.{Some};
+ghost use Rattle.units.specs.RefusalText.{layer-word, refusal-text};
 use std::fmt;
 
 // The part of the product that refused.
@@ -25,6 +27,8 @@ pub struct Refusal {
 }
 
 pub impl fmt::Display for Layer as LayerDisplay {
+    ghost shown = { λ l. Some (layer-word l) };
+
     fn fmt<W: fmt::Write>(&self, f: &mut fmt::Formatter<W>) -> fmt::Result {
         f.write_str(
             match self {
@@ -39,6 +43,8 @@ pub impl fmt::Display for Layer as LayerDisplay {
 }
 
 pub impl fmt::Display for Refusal as RefusalDisplay {
+    ghost shown = { λ r. Some (refusal-text r) };
+
     fn fmt<W: fmt::Write>(&self, f: &mut fmt::Formatter<W>) -> fmt::Result {
         let number = self.number;
         let place = self.place;
