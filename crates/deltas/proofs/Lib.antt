@@ -1,11 +1,2 @@
 pub mod Checks
-pub mod Runs
 pub mod Sound
-pub mod Writes
-pub mod Pieces
-pub mod Through
-pub mod NormalForm
-pub mod Composing
-pub mod Theorems
-pub mod Replacing
-pub mod Outputs

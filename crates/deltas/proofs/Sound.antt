@@ -16,14 +16,16 @@ use Rattle.deltas.specs.declared.instruction.Op.the-variants.{Copy, Insert}
 use Rattle.deltas.specs.declared.delta.Head.{Head}
 use Rattle.deltas.specs.declared.fault.DeltaFault.{DeltaFault}
 use Rattle.deltas.specs.declared.fault.DeltaFault.the-variants.{Counts, EmptyInstruction, CopyPastSource, InsertMisplaced, TargetLength, InsertedCount}
-use Rattle.deltas.specs.Instructions.{instruction}
 use Rattle.deltas.specs.Check.{Parts, instructions-of, units-of, placed, stepped, totalled, walked, passes, checked, Lawful}
 use Rattle.deltas.specs.Origins.{Origin, copied, inserted, copies, given, piece, origins, origins-of, Within}
-use Rattle.deltas.specs.Normal.{extend, runs-after}
-use Rattle.deltas.specs.Steps.{total, Inside, Fits}
-use Rattle.deltas.proofs.Runs.{length-copies, runs-copies, runs-inserted}
+use Rattle.deltas.specs.Places.{total, Inside, Fits}
 
 -- The check of a delta as facts.
+
+-- a copy gives as many places as it is long
+pub length-copies : (U : Type 0) (p n : ℕ) → length (copies {U = U} p n) ≡ n
+length-copies U p zero = refl
+length-copies U p (suc n) = ap suc (length-copies U (suc p) n)
 
 -- how many units an instruction of n units inserts, and how many some instructions do
 abbrev pub inserted-by : Op → ℕ → ℕ
@@ -205,18 +207,3 @@ lawful-fits d l = let p = passed d l in sound-fits (d .head .source) (d .head .i
 
 pub within-origins : {U : Type 0} (d : Parts U) → Lawful d → Within (d .head .source) (origins-of d)
 within-origins d l = within-all (d .head .source) (d .head .inserted) (units-of d) (instructions-of d) (lawful-fits d l)
-
--- an instruction where it is written after k inserted units
-abbrev pub moved : ℕ → Op → ℕ → ℕ → Instruction
-moved k Copy p n = instruction Copy p n
-moved k Insert p n = instruction Insert k n
-
-runs-given : {U : Type 0} (is : List Instruction) (k : ℕ) (us : List U) (o : Op) (p n s m : ℕ) → 0 < n → Inside s m o p n → m ≤ length us → runs-after is k (given us o p n) ≡ extend is (moved k o p n)
-runs-given {U} is k us Copy p n s m z h l = runs-copies U is k p n z
-runs-given is k us Insert p n s m z h l =
-    let e = length-inside us p n m h l in
-    runs-inserted is k (take n (drop p us)) (omega arith) ∙ ap (λ j. extend is (instruction Insert k j)) e
-
--- the places that one instruction gives are one run, joined to what there is
-pub runs-piece : {U : Type 0} (is : List Instruction) (k s m : ℕ) (us : List U) (i : Instruction) → Fits s m i → m ≤ length us → runs-after is k (piece us i) ≡ extend is (moved k (i .op) (i .from) (i .length))
-runs-piece is k s m us i f l = runs-given is k us (i .op) (i .from) (i .length) s m (f .0) (f .1) l

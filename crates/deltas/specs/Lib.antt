@@ -2,10 +2,4 @@ pub mod Instructions
 pub mod Refusals
 pub mod Check
 pub mod Origins
-pub mod Normal
-pub mod Combine
-pub mod Replace
-pub mod Outcomes
-pub mod Laws
-pub mod Examples
-pub mod Steps
+pub mod Places

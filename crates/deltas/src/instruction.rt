@@ -1,6 +1,5 @@
 ghost use mathlib.Core.Path.{_≡_};
-ghost use Prim.Native.Nat.{_+_, _≤_};
-ghost use Rattle.deltas.specs.Instructions.{instruction, blank-instruction, goes-on, cut};
+ghost use Rattle.deltas.specs.Instructions.{instruction, blank-instruction};
 
 // Where an instruction takes its units from.
 #[derive(Clone, Copy, PartialEq, Eq, Debug)]
@@ -32,25 +31,5 @@ impl Instruction {
         ensures { λ r. ⌜ r ≡ blank-instruction ⌝ }
     {
         Instruction::new(Op::Copy, 0, 0)
-    }
-
-    // Whether `next` takes its units where this instruction's end.
-    pub(crate) fn goes_on(self, next: Instruction) -> bool
-        ensures { λ r. ⌜ r ≡ goes-on self next ⌝ }
-    {
-        let end = self.from as u32 + self.length as u32;
-        match (self.op, next.op) {
-            (Op::Copy, Op::Copy) => end == next.from as u32,
-            (Op::Insert, Op::Insert) => end == next.from as u32,
-            _ => false,
-        }
-    }
-
-    // A clone of this instruction, cut at its front by `offset`, and of `length` units.
-    pub(crate) fn cut(self, offset: u16, length: u16) -> Instruction
-        requires { ⌜ self .from + offset ≤ 65535 ⌝ }
-        ensures { λ r. ⌜ r ≡ cut self offset length ⌝ }
-    {
-        Instruction::new(self.op, self.from + offset, length)
     }
 }

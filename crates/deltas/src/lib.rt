@@ -1,15 +1,10 @@
-// Deltas: how one version of a run of units is made from another by copies and inserts. Their check,
-// their normal form, and how two of them are combined into one.
+// Deltas: how one version of a run of units is made from another by copies and inserts; their check,
+// and the faults of one delta and of two that are to be combined.
 
 mod check;
 mod delta;
 mod fault;
 mod instruction;
-mod laws;
-mod locate;
-mod normalise;
-mod pair;
-mod write;
 
 pub use delta::Delta;
 pub use delta::Head;
@@ -41,12 +36,3 @@ pub use instruction::Op;
 pub use instruction::OpDebug;
 pub use instruction::OpEq;
 pub use instruction::OpPartialEq;
-pub use laws::applying_combined_is_applying_both;
-pub use laws::combined_is_normal;
-pub use laws::combining_is_associative;
-pub use laws::combining_is_replace;
-pub use laws::lawful_deltas_stay_inside;
-pub use laws::normal_has_fewest_instructions;
-pub use laws::one_normal_form;
-pub use laws::worked_examples_hold;
-pub use pair::combine;

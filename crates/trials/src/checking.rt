@@ -4,6 +4,8 @@ use crate::tables::copy;
 use crate::tables::delta;
 use crate::tables::insert;
 use crate::tables::refusal;
+use combining::is_normal;
+use combining::normalise;
 use deltas::Delta;
 use deltas::DeltaFault;
 use deltas::DeltaFaultDebug;
@@ -132,11 +134,11 @@ fn counts_at_fault(rt: LibcRuntime) -> Result<(), Fail> {
 fn normal_forms() -> Result<(), Fail> {
     let split = [copy(0, 2), copy(2, 1), insert(0, 1), insert(1, 2)];
     let joined = [copy(0, 3), insert(0, 3)];
-    check(!delta(3, 6, &split, b"abc").is_normal())?;
-    check(delta(3, 6, &joined, b"abc").is_normal())?;
+    check(!is_normal(&delta(3, 6, &split, b"abc")))?;
+    check(is_normal(&delta(3, 6, &joined, b"abc")))?;
     let mut instructions = [insert(7, 7); 8];
     let mut units = [9; 8];
-    let answer = delta(3, 6, &split, b"abc").normalise(&mut instructions, &mut units);
+    let answer = normalise(&delta(3, 6, &split, b"abc"), &mut instructions, &mut units);
     let head = Head {
         source: 3,
         target: 6,
@@ -165,9 +167,9 @@ fn normal_form_refused() -> Result<(), Fail> {
     let split = [copy(0, 2), copy(2, 1), insert(0, 1), insert(1, 2)];
     let mut instructions = [insert(7, 7); 6];
     let mut units = [9; 5];
-    let answer = delta(3, 6, &split, b"abc").normalise(&mut instructions, &mut units);
+    let answer = normalise(&delta(3, 6, &split, b"abc"), &mut instructions, &mut units);
     check_eq(answer, Err(NormalFault::Short(6)))?;
-    let answer = delta(2, 6, &split, b"abc").normalise(&mut instructions, &mut units);
+    let answer = normalise(&delta(2, 6, &split, b"abc"), &mut instructions, &mut units);
     check_eq(
         answer,
         Err(NormalFault::Unlawful(DeltaFault::CopyPastSource(1))),

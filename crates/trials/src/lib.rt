@@ -4,8 +4,8 @@
 #[cfg(test)]
 mod checking;
 #[cfg(test)]
-mod combining;
-#[cfg(test)]
 mod limits;
+#[cfg(test)]
+mod pairs;
 #[cfg(test)]
 mod tables;

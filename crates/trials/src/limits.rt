@@ -3,6 +3,7 @@
 use crate::tables::copy;
 use crate::tables::delta;
 use crate::tables::insert;
+use combining::combine;
 use deltas::Head;
 use deltas::HeadDebug;
 use deltas::HeadEq;
@@ -14,7 +15,6 @@ use deltas::InstructionPartialEq;
 use deltas::PairFaultDebug;
 use deltas::PairFaultEq;
 use deltas::PairFaultPartialEq;
-use deltas::combine;
 use std::test::Fail;
 use std::test::check_eq;
 use units::ByteUnit;

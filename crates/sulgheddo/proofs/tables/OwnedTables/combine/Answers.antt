@@ -1,10 +1,10 @@
-use mathlib.Core.Path.{_≡_, _∙_}
+use mathlib.Core.Path.{_∙_}
 use Rattle.std.proofs.shelf.Lists.{take-at}
-use Rattle.deltas.specs.Combine.{combined-origins}
+use Rattle.combining.specs.Combine.{combined-origins}
 use Rattle.deltas.specs.Instructions.{blank-instruction}
-use Rattle.deltas.specs.Normal.{runs}
+use Rattle.combining.specs.Normal.{runs}
 use Rattle.deltas.specs.Origins.{inserts}
-use Rattle.deltas.specs.Outcomes.{combine-answer, left-in}
+use Rattle.combining.specs.Outcomes.{combine-answer, left-in}
 use Rattle.sulgheddo.proofs.tables.OwnedTables.combine.Needs as need
 
 pub returns : need.returns

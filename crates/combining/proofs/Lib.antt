@@ -1,0 +1,9 @@
+pub mod Runs
+pub mod Writes
+pub mod Pieces
+pub mod Through
+pub mod NormalForm
+pub mod Composing
+pub mod Theorems
+pub mod Replacing
+pub mod Outputs

@@ -1,5 +1,0 @@
-use Rattle.deltas.proofs.Theorems.{stays-inside}
-use Rattle.deltas.proofs.laws.lawful_deltas_stay_inside.Needs as need
-
-pub returns : need.returns
-returns g c = stays-inside _
