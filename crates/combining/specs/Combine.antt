@@ -15,6 +15,7 @@ abbrev pub origin-through : {U : Type 0} → List (Origin U) → Origin U → Or
 origin-through es (copied p) = getD es p (copied p)
 origin-through es (inserted u) = inserted u
 
+-- every later place by the earlier origins
 abbrev pub through : {U : Type 0} → List (Origin U) → List (Origin U) → List (Origin U)
 through es os = map (origin-through es) os
 

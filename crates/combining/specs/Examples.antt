@@ -17,18 +17,23 @@ use Rattle.combining.specs.Combine.{combined}
 abbrev pub delta : ℕ → ℕ → List Instruction → List ℕ → Parts ℕ
 delta s t is us = parts (head s t (length is) (length us)) is us
 
+-- a copy of n bytes at p
 abbrev pub copy : ℕ → ℕ → Instruction
 copy p n = instruction Copy p n
 
+-- an insert of n bytes at p
 abbrev pub insert : ℕ → ℕ → Instruction
 insert p n = instruction Insert p n
 
+-- an earlier delta of four instructions
 abbrev pub first : Parts ℕ
 first = delta 25 28 (copy 0 13 ∷ insert 0 2 ∷ copy 14 9 ∷ insert 2 4 ∷ []) (codes "b01435")
 
+-- and a later one of five
 abbrev pub second : Parts ℕ
 second = delta 28 30 (insert 0 1 ∷ copy 0 15 ∷ insert 1 1 ∷ copy 16 10 ∷ insert 2 3 ∷ []) (codes "z0c35")
 
+-- what comes of them, each example with what it shows
 pub record Examples : Type 0 where
   -- two longer deltas
   pub first-lawful : Lawful first

@@ -53,9 +53,10 @@ runs-after is k (inserted u ∷ os) = runs-after (extend is (instruction Insert 
 abbrev pub runs : {U : Type 0} → List (Origin U) → List Instruction
 runs os = runs-after [] 0 os
 
--- the normal delta over a source of s units with these origins
+-- the head of the normal delta over a source of s units with these origins
 abbrev pub normal-head : {U : Type 0} → ℕ → List (Origin U) → Head
 normal-head s os = head s (length os) (length (runs os)) (length (inserts os))
 
+-- that delta, in tables that hold nothing else
 abbrev pub normal : {U : Type 0} → ℕ → List (Origin U) → Parts U
 normal s os = parts (normal-head s os) (runs os) (inserts os)

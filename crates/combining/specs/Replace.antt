@@ -19,6 +19,7 @@ pub record Taken : Type 0 where
   pub side : Side
   pub step : Instruction
 
+-- an instruction, taken from that side
 abbrev pub taken : Side → Instruction → Taken
 taken s i = record { side = s; step = i }
 
@@ -42,11 +43,12 @@ replaced-one es Insert i = taken Later i ∷ []
 abbrev pub replaced : List Instruction → List Instruction → List Taken
 replaced es is = joined (λ i. replaced-one es (i .op) i) is
 
--- the origins of what was taken, over the earlier and the later delta's units
+-- the units of the delta on a side
 abbrev pub units-by : {U : Type 0} → List U → List U → Side → List U
 units-by us vs Earlier = us
 units-by us vs Later = vs
 
+-- the origins of what was taken, over the earlier and the later delta's units
 abbrev pub taken-origins : {U : Type 0} → List U → List U → List Taken → List (Origin U)
 taken-origins us vs ts = joined (λ t. piece (units-by us vs (t .side)) (t .step)) ts
 

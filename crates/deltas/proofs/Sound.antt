@@ -19,6 +19,7 @@ use Rattle.deltas.specs.declared.fault.DeltaFault.the-variants.{Counts, EmptyI
 use Rattle.deltas.specs.Check.{Parts, instructions-of, units-of, placed, stepped, totalled, walked, passes, checked, Lawful}
 use Rattle.deltas.specs.Origins.{Origin, copied, inserted, copies, given, piece, origins, origins-of, Within}
 use Rattle.deltas.specs.Places.{total, Inside, Fits}
+pub use Rattle.deltas.specs.Meaning.{inserted-by, inserted-in, Placed}
 
 -- The check of a delta as facts.
 
@@ -27,20 +28,7 @@ pub length-copies : (U : Type 0) (p n : ℕ) → length (copies {U = U} p n) ≡
 length-copies U p zero = refl
 length-copies U p (suc n) = ap suc (length-copies U (suc p) n)
 
--- how many units an instruction of n units inserts, and how many some instructions do
-abbrev pub inserted-by : Op → ℕ → ℕ
-inserted-by Copy n = 0
-inserted-by Insert n = n
-
-abbrev pub inserted-in : List Instruction → ℕ
-inserted-in [] = 0
-inserted-in (i ∷ is) = inserted-by (i .op) (i .length) + inserted-in is
-
--- n units at p stand where they have to, after k inserted units
-abbrev pub Placed : ℕ → ℕ → Op → ℕ → ℕ → Type 0
-Placed s k Copy p n = p + n ≤ s
-Placed s k Insert p n = p ≡ k
-
+-- the instructions of a delta over s units, after k inserted units, one after another
 abbrev pub Sound : ℕ → ℕ → List Instruction → Type 0
 Sound s k [] = Unit {0}
 Sound s k (i ∷ is) = (0 < i .length) × Placed s k (i .op) (i .from) (i .length) × Sound s (k + inserted-by (i .op) (i .length)) is
@@ -82,7 +70,7 @@ placed-back : (s n k : ℕ) (o : Op) (p l : ℕ) → Placed s n o p l → placed
 placed-back s n k Copy p l h = let e : n ≡ n + 0 = omega arith in cond-true (leb (p + l) s) _ _ (le-leb (p + l) s h) ∙ ap Ok e
 placed-back s n k Insert p l h = cond-true (eqb p n) _ _ (eq-eqb p n h)
 
-stepped-facts : (s n k : ℕ) (i : Instruction) (m : ℕ) → stepped s n k i ≡ Ok m → (0 < i .length) × Placed s n (i .op) (i .from) (i .length) × (m ≡ n + inserted-by (i .op) (i .length))
+pub stepped-facts : (s n k : ℕ) (i : Instruction) (m : ℕ) → stepped s n k i ≡ Ok m → (0 < i .length) × Placed s n (i .op) (i .from) (i .length) × (m ≡ n + inserted-by (i .op) (i .length))
 stepped-facts s n k i m h =
     let e = ok-unless (eqb (i .length) 0) (placed s n k (i .op) (i .from) (i .length)) (EmptyInstruction k) m h in
     let f = placed-facts s n k (i .op) (i .from) (i .length) m (e .1) in
@@ -143,7 +131,7 @@ passed d l = checked-facts d (d .head) l .0
 pub passed-any : {U : Type 0} (d : Parts U) (h : Head) → checked d ≡ Ok h → Lawful d
 passed-any d h e = e ∙ ap Ok (checked-facts d h e .1)
 
-not-passes : (c e : ℕ) → c ≤ e → c ≤ 65535 → passes c e ≡ false
+pub not-passes : (c e : ℕ) → c ≤ e → c ≤ 65535 → passes c e ≡ false
 not-passes c e h f = or-from (ltb e c) (ltb 65535 c) (le-ltb e c h) (le-ltb 65535 c f)
 
 pub lawful : {U : Type 0} (d : Parts U) → Passed d → Lawful d

@@ -25,6 +25,7 @@ pub record Parts (U : Type 0) : Type 0 where
   pub table : List Instruction
   pub units : List U
 
+-- those three, put together
 abbrev pub parts : {U : Type 0} → Head → List Instruction → List U → Parts U
 parts h is us = record { head = h; table = is; units = us }
 
@@ -32,10 +33,11 @@ parts h is us = record { head = h; table = is; units = us }
 abbrev pub parts-of : {U : Type 0} → Delta U → Parts U
 parts-of d = parts (d .head) (now (d .instructions)) (now (d .units))
 
--- the entries of its tables that are a delta's own
+-- the entries of its tables that are a delta's own: its instructions
 abbrev pub instructions-of : {U : Type 0} → Parts U → List Instruction
 instructions-of d = take (d .head .instructions) (d .table)
 
+-- and its inserted units
 abbrev pub units-of : {U : Type 0} → Parts U → List U
 units-of d = take (d .head .inserted) (d .units)
 
@@ -45,6 +47,7 @@ abbrev pub placed : ℕ → ℕ → ℕ → Op → ℕ → ℕ → Result ℕ De
 placed source inserted k Copy p n = cond (leb (p + n) source) (Ok inserted) (Err (CopyPastSource k))
 placed source inserted k Insert p n = cond (eqb p inserted) (Ok (inserted + n)) (Err (InsertMisplaced k))
 
+-- the same of an instruction, which is not of length 0
 abbrev pub stepped : ℕ → ℕ → ℕ → Instruction → Result ℕ DeltaFault
 stepped source inserted k i =
     cond (eqb (i .length) 0) (Err (EmptyInstruction k)) (placed source inserted k (i .op) (i .from) (i .length))

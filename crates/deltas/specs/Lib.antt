@@ -3,3 +3,4 @@ pub mod Refusals
 pub mod Check
 pub mod Origins
 pub mod Places
+pub mod Meaning

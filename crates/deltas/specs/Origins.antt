@@ -22,6 +22,7 @@ abbrev pub given : {U : Type 0} → List U → Op → ℕ → ℕ → List (Orig
 given us Copy p n = copies p n
 given us Insert p n = map inserted (take n (drop p us))
 
+-- the same of an instruction
 abbrev pub piece : {U : Type 0} → List U → Instruction → List (Origin U)
 piece us i = given us (i .op) (i .from) (i .length)
 
@@ -45,7 +46,8 @@ Within s [] = Unit {0}
 Within s (copied p ∷ os) = (p < s) × Within s os
 Within s (inserted u ∷ os) = Within s os
 
--- the unit that an origin stands for, over a source; d past its end, which no lawful delta meets
+-- the unit that an origin stands for, over a source; d past its end, which no lawful delta over a source of its length
+-- meets
 abbrev pub unit-from : {U : Type 0} → U → List U → Origin U → U
 unit-from d source (copied p) = getD source p d
 unit-from d source (inserted u) = u

@@ -5,6 +5,7 @@ mod check;
 mod delta;
 mod fault;
 mod instruction;
+mod laws;
 
 pub use delta::Delta;
 pub use delta::Head;
@@ -36,3 +37,4 @@ pub use instruction::Op;
 pub use instruction::OpDebug;
 pub use instruction::OpEq;
 pub use instruction::OpPartialEq;
+pub use laws::the_check_finds_the_first_fault;
