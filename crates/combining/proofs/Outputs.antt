@@ -10,8 +10,8 @@ use Rattle.deltas.specs.declared.instruction.Op.{Op}
 use Rattle.deltas.specs.declared.instruction.Op.TheVariants.{Copy, Insert}
 use Rattle.deltas.specs.declared.delta.Head.{Head}
 use Rattle.combining.specs.declared.write.Written.{Written}
-use Rattle.faults.specs.declared.delta.NormalFault.TheVariants as norm
-use Rattle.faults.specs.declared.pair.PairFault.TheVariants as pair
+use Rattle.deltas.specs.declared.fault.NormalFault.TheVariants as norm
+use Rattle.deltas.specs.declared.fault.PairFault.TheVariants as pair
 use Rattle.deltas.specs.Check.{head, Parts, parts, checked, Lawful, instructions_of, units_of}
 use Rattle.deltas.specs.Origins.{Origin, origins, origins_of, inserts, Within}
 use Rattle.combining.specs.Normal.{Normal, runs, normal_head}

@@ -6,7 +6,7 @@ use Rattle.std.proofs.lemmas.Bool.{cond_both, leb-true, leb-false}
 use Rattle.deltas.specs.declared.instruction.Instruction.{Instruction}
 use Rattle.deltas.specs.declared.instruction.Op.{Op}
 use Rattle.deltas.specs.declared.instruction.Op.TheVariants.{Copy, Insert}
-use Rattle.faults.specs.declared.pair.Side.TheVariants.{Earlier}
+use Rattle.deltas.specs.declared.fault.Side.TheVariants.{Earlier}
 use Rattle.deltas.specs.Instructions.{instruction}
 use Rattle.deltas.specs.Check.{instructions_of, units_of}
 use Rattle.deltas.specs.Origins.{given, piece, origins, origins_of}

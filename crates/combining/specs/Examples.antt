@@ -1,7 +1,7 @@
 use Rattle.std.specs.Prelude.{◌≡◌, ℕ, List, [], ◌∷◌, length, Err, codes}
 use Rattle.deltas.specs.declared.instruction.Instruction.{Instruction}
 use Rattle.deltas.specs.declared.instruction.Op.TheVariants.{Copy, Insert}
-use Rattle.faults.specs.declared.delta.DeltaFault.TheVariants.{CopyPastSource}
+use Rattle.deltas.specs.declared.fault.DeltaFault.TheVariants.{CopyPastSource}
 use Rattle.deltas.specs.Instructions.{instruction}
 use Rattle.deltas.specs.Check.{head, Parts, parts, checked, Lawful}
 use Rattle.combining.specs.Combine.{combined}

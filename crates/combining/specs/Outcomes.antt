@@ -1,12 +1,12 @@
 use Rattle.std.specs.Prelude.{◌≡◌, ℕ, ◌-◌, Bool, cond, ◌||◌, List, ◌++◌, length, replicate, Ok, Err, Result, ◌==◌, nat_lt}
 use Rattle.deltas.specs.declared.instruction.Instruction.{Instruction}
 use Rattle.deltas.specs.declared.delta.Head.{Head}
-use Rattle.faults.specs.declared.delta.DeltaFault.{DeltaFault}
-use Rattle.faults.specs.declared.pair.PairFault.{PairFault}
-use Rattle.faults.specs.declared.pair.PairFault.TheVariants as pair
-use Rattle.faults.specs.declared.delta.NormalFault.{NormalFault}
-use Rattle.faults.specs.declared.delta.NormalFault.TheVariants as norm
-use Rattle.faults.specs.declared.pair.Side.TheVariants.{Earlier, Later}
+use Rattle.deltas.specs.declared.fault.DeltaFault.{DeltaFault}
+use Rattle.deltas.specs.declared.fault.PairFault.{PairFault}
+use Rattle.deltas.specs.declared.fault.PairFault.TheVariants as pair
+use Rattle.deltas.specs.declared.fault.NormalFault.{NormalFault}
+use Rattle.deltas.specs.declared.fault.NormalFault.TheVariants as norm
+use Rattle.deltas.specs.declared.fault.Side.TheVariants.{Earlier, Later}
 use Rattle.deltas.specs.Check.{Parts, parts, checked}
 use Rattle.deltas.specs.Origins.{Origin, origins_of}
 use Rattle.combining.specs.Normal.{Normal, normal_head}

@@ -3,8 +3,8 @@ use Rattle.std.specs.List.{flat_map}
 use Rattle.deltas.specs.declared.instruction.Instruction.{Instruction}
 use Rattle.deltas.specs.declared.instruction.Op.{Op}
 use Rattle.deltas.specs.declared.instruction.Op.TheVariants.{Copy, Insert}
-use Rattle.faults.specs.declared.pair.Side.{Side}
-use Rattle.faults.specs.declared.pair.Side.TheVariants.{Earlier, Later}
+use Rattle.deltas.specs.declared.fault.Side.{Side}
+use Rattle.deltas.specs.declared.fault.Side.TheVariants.{Earlier, Later}
 use Rattle.combining.specs.Joining.{cut}
 use Rattle.deltas.specs.Check.{Parts, instructions_of, units_of}
 use Rattle.deltas.specs.Origins.{Origin, piece}

@@ -11,8 +11,7 @@ ghost use Rattle.combining.specs.Steps.{nothing_written, Space, Appended};
 
 use crate::joining::goes_on;
 use crate::write::{Written, append, finish};
-use deltas::{Delta, Head, Instruction};
-use faults::NormalFault;
+use deltas::{Delta, Head, Instruction, NormalFault};
 use units::Unit;
 
 // Writes the runs of some instructions, from the start of two output tables on.
@@ -68,7 +67,7 @@ pub fn normalise<U: Unit>(
 ) -> Result<Head, NormalFault>
     ensures answer { result ≡ normal_answer (parts_of delta.now) (length out_instructions.old) (length out_units.old) }
     ensures instructions { out_instructions.new ≡ left_in result out_instructions.old (runs (origins_of (parts_of delta.now))) blank_instruction }
-    ensures units { out_units.new ≡ left_in result out_units.old (inserts (origins_of (parts_of delta.now))) blank }
+    ensures units { out_units.new ≡ left_in result out_units.old (inserts (origins_of (parts_of delta.now))) U.blank }
     ensures meaning { IfOk result (λ h. Holds h out_instructions.new out_units.new delta.now.head.source (origins_of (parts_of delta.now))) }
 {
     delta.check()?;

@@ -13,8 +13,7 @@ ghost use Rattle.combining.specs.Steps.{nothing_written, Space, Appended, Standi
 
 use crate::locate::{Cursor, locate, splice};
 use crate::write::{Written, append, finish};
-use deltas::{Delta, Head, Instruction, Op};
-use faults::{PairFault, Side};
+use deltas::{Delta, Head, Instruction, Op, PairFault, Side};
 use units::Unit;
 
 // How far the combined delta is written, and where the last search in the earlier one ended.
@@ -109,7 +108,7 @@ pub fn combine<U: Unit>(
 ) -> Result<Head, PairFault>
     ensures answer { result ≡ combine_answer (parts_of earlier.now) (parts_of later.now) (length out_instructions.old) (length out_units.old) }
     ensures instructions { out_instructions.new ≡ left_in result out_instructions.old (runs (combined_origins (parts_of earlier.now) (parts_of later.now))) blank_instruction }
-    ensures units { out_units.new ≡ left_in result out_units.old (inserts (combined_origins (parts_of earlier.now) (parts_of later.now))) blank }
+    ensures units { out_units.new ≡ left_in result out_units.old (inserts (combined_origins (parts_of earlier.now) (parts_of later.now))) U.blank }
     ensures meaning { IfOk result (λ h. Holds h out_instructions.new out_units.new earlier.now.head.source (replace_origins (parts_of earlier.now) (parts_of later.now))) }
 {
     match earlier.check() {

@@ -8,7 +8,7 @@ ghost use Rattle.deltas.specs.Places.{total, Fits};
 ghost use Rattle.combining.specs.Steps.{Space, Appended};
 
 use crate::joining::goes_on;
-use deltas::{Head, Instruction, Op, blank_rest};
+use deltas::{Head, Instruction, Op};
 use units::Unit;
 
 // How much of two output tables is written so far.
@@ -78,6 +78,17 @@ pub(crate) fn append<U: Unit>(
     }
 }
 
+// Blanks every entry of a table past the first `count`.
+fn blank_rest<T: Copy>(table: &mut [T], count: usize, blank: T)
+    requires { count ≤ length table.old }
+    ensures { table.new ≡ take count table.old ++ replicate (length table.old - count) blank }
+{
+    let rest = table.len() - count;
+    for i in 0..rest {
+        table[count + i] = blank;
+    }
+}
+
 // Blanks what is not written of two output tables, and answers the head of the delta that is.
 pub(crate) fn finish<U: Unit>(
     out: &mut [Instruction],
@@ -90,7 +101,7 @@ pub(crate) fn finish<U: Unit>(
     requires units { written.inserted ≤ length units.old }
     ensures head { result ≡ head source target written.instructions written.inserted }
     ensures instructions { out.new ≡ take written.instructions out.old ++ replicate (length out.old - written.instructions) blank_instruction }
-    ensures units { units.new ≡ take written.inserted units.old ++ replicate (length units.old - written.inserted) blank }
+    ensures units { units.new ≡ take written.inserted units.old ++ replicate (length units.old - written.inserted) U.blank }
 {
     let instructions = written.instructions;
     let inserted = written.inserted;

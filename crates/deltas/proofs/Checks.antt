@@ -7,8 +7,8 @@ use Rattle.deltas.specs.declared.instruction.Instruction.{Instruction}
 use Rattle.deltas.specs.declared.instruction.Op.{Op}
 use Rattle.deltas.specs.declared.instruction.Op.TheVariants.{Copy, Insert}
 use Rattle.deltas.specs.declared.delta.Head.{Head}
-use Rattle.faults.specs.declared.delta.DeltaFault.{DeltaFault}
-use Rattle.faults.specs.declared.delta.DeltaFault.TheVariants.{EmptyInstruction}
+use Rattle.deltas.specs.declared.fault.DeltaFault.{DeltaFault}
+use Rattle.deltas.specs.declared.fault.DeltaFault.TheVariants.{EmptyInstruction}
 use Rattle.deltas.specs.Instructions.{blank_instruction}
 use Rattle.deltas.specs.Check.{Parts, checked, passes, walked, stepped, placed, totalled, instructions_of}
 

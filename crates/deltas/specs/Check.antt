@@ -4,8 +4,8 @@ use Rattle.deltas.specs.declared.instruction.Op.{Op}
 use Rattle.deltas.specs.declared.instruction.Op.TheVariants.{Copy, Insert}
 use Rattle.deltas.specs.declared.delta.Head.{Head}
 use Rattle.deltas.specs.declared.delta.Delta.{Delta}
-use Rattle.faults.specs.declared.delta.DeltaFault.{DeltaFault}
-use Rattle.faults.specs.declared.delta.DeltaFault.TheVariants.{Counts, EmptyInstruction, CopyPastSource, InsertMisplaced, TargetLength, InsertedCount}
+use Rattle.deltas.specs.declared.fault.DeltaFault.{DeltaFault}
+use Rattle.deltas.specs.declared.fault.DeltaFault.TheVariants.{Counts, EmptyInstruction, CopyPastSource, InsertMisplaced, TargetLength, InsertedCount}
 
 -- a head by its lengths and counts
 abbrev pub head : ℕ → ℕ → ℕ → ℕ → Head

@@ -1,4 +1,5 @@
 pub mod Instructions
+pub mod Refusals
 pub mod Check
 pub mod Origins
 pub mod Places

@@ -3,8 +3,8 @@ use Rattle.deltas.specs.declared.instruction.Instruction.{Instruction}
 use Rattle.deltas.specs.declared.instruction.Op.{Op}
 use Rattle.deltas.specs.declared.instruction.Op.TheVariants.{Copy, Insert}
 use Rattle.deltas.specs.declared.delta.Head.{Head}
-use Rattle.faults.specs.declared.delta.DeltaFault.{DeltaFault}
-use Rattle.faults.specs.declared.delta.DeltaFault.TheVariants.{Counts, EmptyInstruction, CopyPastSource, InsertMisplaced, TargetLength, InsertedCount}
+use Rattle.deltas.specs.declared.fault.DeltaFault.{DeltaFault}
+use Rattle.deltas.specs.declared.fault.DeltaFault.TheVariants.{Counts, EmptyInstruction, CopyPastSource, InsertMisplaced, TargetLength, InsertedCount}
 use Rattle.deltas.specs.Instructions.{blank_instruction}
 use Rattle.deltas.specs.Check.{Parts, instructions_of, checked, Lawful}
 use Rattle.deltas.specs.Places.{total}

@@ -2,8 +2,8 @@ ghost use Rattle.std.specs.Prelude.{◌≡◌};
 ghost use Rattle.deltas.specs.Check.{checked, parts_of, stepped};
 
 use crate::delta::{Delta, Head};
+use crate::fault::DeltaFault;
 use crate::instruction::{Instruction, Op};
-use faults::DeltaFault;
 
 // How many units are inserted after the instruction at an index, or what is wrong with it, where so many
 // were inserted before it.

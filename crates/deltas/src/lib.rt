@@ -1,14 +1,16 @@
-// Deltas: how one version of a run of units is made from another by copies and inserts, what they mean,
-// and their check.
+// Deltas: how one version of a run of units is made from another by copies and inserts; their check,
+// and the faults of one delta and of two that are to be combined.
 
 mod check;
 mod delta;
+mod fault;
 mod instruction;
 mod laws;
 mod table;
 
 pub use check::after_instruction;
 pub use delta::{Delta, Head};
+pub use fault::{DeltaFault, NormalFault, PairFault, Side};
 pub use instruction::{Instruction, Op};
 pub use laws::the_check_finds_the_first_fault;
 pub use table::blank_rest;

@@ -5,7 +5,7 @@ ghost use Rattle.faults.specs.declared.frame.ReadFault.TheVariants.{Unread, Shor
 ghost use Rattle.faults.specs.declared.frame.WriteFault.TheVariants.{Unlawful};
 ghost use Rattle.faults.specs.Refusals.{frame_refusal, parse_refusal, read_refusal, write_refusal};
 
-use crate::delta::DeltaFault;
+use deltas::DeltaFault;
 use units::{Layer, Refusal};
 
 // Why bytes are not a frame, with the place in the frame where that shows.

@@ -6,7 +6,7 @@ use Rattle.std.proofs.lemmas.List.{length-drop, length_push, drop-drop, get_or-d
 use Rattle.std.proofs.lemmas.Bool.Decides.{nat_tests}
 use Rattle.units.specs.BigEndian.{number_at}
 use Rattle.units.specs.declared.wire.WireUnit.{Ghosts}
-use Rattle.faults.specs.declared.delta.DeltaFault.{DeltaFault}
+use Rattle.deltas.specs.declared.fault.DeltaFault.{DeltaFault}
 use Rattle.deltas.specs.Check.{Parts, checked}
 use Rattle.frames.specs.declared.opening.Opening.{Opening}
 use Rattle.faults.specs.declared.frame.FrameFault.{FrameFault}

@@ -10,7 +10,7 @@ use Rattle.units.specs.BigEndian.{number_at}
 use Rattle.units.specs.declared.wire.WireUnit.{Ghosts}
 use Rattle.deltas.specs.declared.instruction.Instruction.{Instruction}
 use Rattle.deltas.specs.declared.delta.Head.{Head}
-use Rattle.faults.specs.declared.delta.DeltaFault.{DeltaFault}
+use Rattle.deltas.specs.declared.fault.DeltaFault.{DeltaFault}
 use Rattle.deltas.specs.Check.{head, Parts, parts, instructions_of, units_of, checked, Lawful}
 use Rattle.deltas.specs.Places.{total}
 use Rattle.deltas.specs.Meaning.{inserted_in}

@@ -4,8 +4,8 @@ use Rattle.std.proofs.lemmas.List.{take_all}
 use Rattle.std.proofs.lemmas.Bool.Decides.{nat_tests}
 use Rattle.units.specs.declared.wire.WireUnit.{Ghosts}
 use Rattle.deltas.specs.declared.delta.Head.{Head}
-use Rattle.faults.specs.declared.delta.DeltaFault.{DeltaFault}
-use Rattle.faults.specs.declared.delta.DeltaFault.TheVariants.{Counts}
+use Rattle.deltas.specs.declared.fault.DeltaFault.{DeltaFault}
+use Rattle.deltas.specs.declared.fault.DeltaFault.TheVariants.{Counts}
 use Rattle.deltas.specs.Check.{head, Parts, checked, walked}
 use Rattle.deltas.proofs.Checks.{checked_walks}
 use Rattle.deltas.proofs.Sound.{passed_any}

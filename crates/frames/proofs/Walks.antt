@@ -3,7 +3,7 @@ use Rattle.std.proofs.Common.{◌≡◌, ℕ, suc, ◌+◌, ◌-◌, ◌<◌, �
 use Rattle.std.proofs.lemmas.List.{take_rest, length-drop}
 use Rattle.deltas.specs.declared.instruction.Instruction.{Instruction}
 use Rattle.deltas.specs.declared.delta.Head.{Head}
-use Rattle.faults.specs.declared.delta.DeltaFault.{DeltaFault}
+use Rattle.deltas.specs.declared.fault.DeltaFault.{DeltaFault}
 use Rattle.deltas.specs.Check.{stepped, walked}
 use Rattle.deltas.proofs.Sound.{stepped_facts}
 use Rattle.faults.specs.declared.frame.FrameFault.{FrameFault}

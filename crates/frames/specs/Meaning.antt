@@ -2,7 +2,7 @@ use Rattle.std.specs.Prelude.{◌≡◌, ℕ, ◌+◌, ◌-◌, ◌*◌, ◌<◌
 use Rattle.std.specs.List.{flat_map, AllByRecursion as All}
 use Rattle.units.specs.BigEndian.{number_at}
 use Rattle.units.specs.declared.wire.WireUnit.{Ghosts}
-use Rattle.faults.specs.declared.delta.DeltaFault.{DeltaFault}
+use Rattle.deltas.specs.declared.fault.DeltaFault.{DeltaFault}
 use Rattle.deltas.specs.Check.{Parts, checked, Lawful}
 use Rattle.faults.specs.declared.frame.FrameFault.{FrameFault}
 use Rattle.faults.specs.declared.frame.FrameFault.TheVariants.{CutShort, Version, SpareBytes, OtherKind, UnknownTag}

@@ -1,7 +1,7 @@
 use Rattle.std.specs.Prelude.{ℕ, cond, List, [], ◌++◌, length, drop, Ok, Err, Result, nat_lt}
 use Rattle.units.specs.declared.wire.WireUnit.{Ghosts}
 use Rattle.deltas.specs.declared.delta.Head.{Head}
-use Rattle.faults.specs.declared.delta.DeltaFault.{DeltaFault}
+use Rattle.deltas.specs.declared.fault.DeltaFault.{DeltaFault}
 use Rattle.deltas.specs.Check.{Parts, checked}
 use Rattle.faults.specs.declared.frame.ParseFault.{ParseFault}
 use Rattle.faults.specs.declared.frame.ReadFault.{ReadFault}

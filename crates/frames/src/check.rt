@@ -8,8 +8,8 @@ ghost use Rattle.frames.specs.Steps.{wires_in, Frames};
 
 use crate::opening::{Opening, open_frame};
 use crate::wire::first_instruction;
-use deltas::{Head, after_instruction};
-use faults::{DeltaFault, FrameFault, ParseFault};
+use deltas::{DeltaFault, Head, after_instruction};
+use faults::{FrameFault, ParseFault};
 use units::WireUnit;
 
 // Checks that so many instructions stand in a frame after its first 12 bytes, and nothing behind them.

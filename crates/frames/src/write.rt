@@ -10,8 +10,8 @@ ghost use Rattle.frames.specs.Writing.{wire_of, instructions_bytes, opening_byte
 ghost use Rattle.frames.specs.Outcomes.{length_answer, write_answer, front_in};
 ghost use Rattle.frames.specs.Steps.{extent_of};
 
-use deltas::{Delta, Instruction, Op};
-use faults::{DeltaFault, WriteFault};
+use deltas::{Delta, DeltaFault, Instruction, Op};
+use faults::WriteFault;
 use units::WireUnit;
 
 // Writes bytes to the output, from `at` on, and answers where they end.

@@ -8,7 +8,7 @@ use crate::tables::{OwnedTables, Sizes};
 use crate::tally::Tally;
 use crate::text_unit::{TextUnit, Units};
 use crate::words::Words;
-use faults::{PairFault, Side};
+use deltas::{PairFault, Side};
 use std::alloc::{AllocError, Global};
 use std::{fmt, io};
 

@@ -2,8 +2,7 @@
 
 use crate::tables::{copy, delta, insert, refusal};
 use combining::{is_normal, normalise};
-use deltas::{Delta, Head, Instruction};
-use faults::{DeltaFault, NormalFault};
+use deltas::{Delta, DeltaFault, Head, Instruction, NormalFault};
 use std::test::Fail;
 use units::{Layer, Refusal};
 

@@ -2,8 +2,7 @@
 
 use crate::tables::{copy, delta, insert, refusal};
 use combining::combine;
-use deltas::{Delta, Head, Instruction};
-use faults::{PairFault, Side};
+use deltas::{Delta, Head, Instruction, PairFault, Side};
 use std::process::Abort;
 use std::test::Fail;
 use units::{Layer, Refusal};

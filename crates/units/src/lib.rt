@@ -1,4 +1,5 @@
 // Units, the elements of a version, and the form of a refusal.
+#![tactic(auto)]
 
 mod byte;
 mod cashflow;

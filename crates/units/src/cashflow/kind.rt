@@ -56,13 +56,13 @@ impl WireUnit for Cashflow {
 
     ghost parsed = { cashflow_of };
 
-    ghost length_written = { first_of (Prim.search rules, Prim.grind (arith, Self.row.coded.inj)) };
+    ghost length_written = { Prim.search rules };
 
     ghost parsed_written = { λ x. of_bytes x };
 
     ghost written_parsed = { λ bs long bytes. bytes_of bs long bytes };
 
-    ghost frame_fits = { first_of (Prim.search rules, Prim.grind (arith, Self.row.coded.inj)) };
+    ghost frame_fits = { Prim.search rules };
 
     fn kind_number() -> u8 {
         Self::KIND

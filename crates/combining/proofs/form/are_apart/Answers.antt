@@ -7,10 +7,10 @@ use Rattle.combining.proofs.form.are_apart.Goals as goal
 pub returns : goal.returns
 returns c = sym (sym c.loop-pair.invariant.3 ∙ apart_few (windows_rest c.loop-pair.pair-iterator) (omega (arith, c.in-None.ensures.steps.1.0, c.loop-pair.invariant.2)))
 
-pub returns-then-goes-on : goal.returns-then-goes-on
-returns-then-goes-on c =
+pub returns-then-goes_on : goal.returns-then-goes_on
+returns-then-goes_on c =
     let s = c.in-Some.ensures.steps.1 in
-    sym (sym c.loop-pair.invariant.3 ∙ apart_turn (windows_rest c.loop-pair.pair-iterator) c.in-Some.pair.now (windows_size c.loop-pair.pair-iterator) true c.loop-pair.invariant.2 s.0 s.1 c.if-goes-on.ensures)
+    sym (sym c.loop-pair.invariant.3 ∙ apart_turn (windows_rest c.loop-pair.pair-iterator) c.in-Some.pair.now (windows_size c.loop-pair.pair-iterator) true c.loop-pair.invariant.2 s.0 s.1 c.if-goes_on.ensures)
 
 pub loop-pair-preserved : goal.loop-pair-preserved
 loop-pair-preserved c =
@@ -19,5 +19,5 @@ loop-pair-preserved c =
       omega (arith, n, c.loop-pair.invariant.2),
       tt,
       n ∙ c.loop-pair.invariant.2,
-      ap all_apart s.2 ∙ sym (apart_turn (windows_rest c.loop-pair.pair-iterator) c.in-Some.pair.now (windows_size c.loop-pair.pair-iterator) false c.loop-pair.invariant.2 s.0 s.1 c.if-goes-on.ensures) ∙ c.loop-pair.invariant.3,
+      ap all_apart s.2 ∙ sym (apart_turn (windows_rest c.loop-pair.pair-iterator) c.in-Some.pair.now (windows_size c.loop-pair.pair-iterator) false c.loop-pair.invariant.2 s.0 s.1 c.if-goes_on.ensures) ∙ c.loop-pair.invariant.3,
     )

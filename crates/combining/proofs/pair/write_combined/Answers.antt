@@ -12,8 +12,8 @@ use Rattle.combining.proofs.Through.{through_more}
 use Rattle.combining.proofs.Writes.{appended_then, space_left, space_less}
 use Rattle.combining.proofs.pair.write_combined.Goals as goal
 
-pub combine-instruction-progress-requires : goal.combine-instruction-progress-requires
-combine-instruction-progress-requires g c =
+pub combine_instruction-progress-requires : goal.combine_instruction-progress-requires
+combine_instruction-progress-requires g c =
     let later = c.args.later.now in
     let k = c.loop-next.next-index in
     let i = get_or later k blank_instruction in
@@ -40,10 +40,10 @@ loop-next-preserved g c =
     let fits = All-get_or (Fits s (length us)) later k blank_instruction (omega arith) c.requires.later in
     let long : length (through es (piece us i)) ≡ i.length = length-map (piece us i) (origin_through es) ∙ length_piece us i s (length us) fits (omega arith) in
     let room : total later - total (take k later) ≡ length (through es (piece us i)) + (total later - total (take (k + 1) later)) = omega arith in (
-      space_left (through es (piece us i)) _ _ _ _ _ _ (total later - total (take k later)) (total later - total (take (k + 1) later)) room (omega arith) (omega arith) c.combine-instruction-progress.ensures.appended c.loop-next.invariant.0,
-      subst (λ os. Appended os c.args.out.now c.args.units.now nothing_written c.combine-instruction-progress.new.out c.combine-instruction-progress.new.units c.combine-instruction-progress.result.written) (sym (through_more es us later k (omega arith)))
-          (appended_then _ _ _ _ _ _ _ _ _ _ _ c.loop-next.invariant.1 c.combine-instruction-progress.ensures.appended),
-      c.combine-instruction-progress.ensures.standing,
+      space_left (through es (piece us i)) _ _ _ _ _ _ (total later - total (take k later)) (total later - total (take (k + 1) later)) room (omega arith) (omega arith) c.combine_instruction-progress.ensures.appended c.loop-next.invariant.0,
+      subst (λ os. Appended os c.args.out.now c.args.units.now nothing_written c.combine_instruction-progress.new.out c.combine_instruction-progress.new.units c.combine_instruction-progress.result.written) (sym (through_more es us later k (omega arith)))
+          (appended_then _ _ _ _ _ _ _ _ _ _ _ c.loop-next.invariant.1 c.combine_instruction-progress.ensures.appended),
+      c.combine_instruction-progress.ensures.standing,
     )
 
 pub returns : goal.returns

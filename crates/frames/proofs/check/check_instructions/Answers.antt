@@ -17,27 +17,27 @@ loop-index-init c = (
   omega arith,
 )
 
-pub returns-in-err-wire : goal.returns-in-err-wire
-returns-in-err-wire c =
-    absurd (wires_fault c.args.width c.args.opening.instructions c.loop-index.index c.loop-index.place c.loop-index.rest.now _ c.loop-index.invariant.0 (omega arith) c.in-err-wire.ensures c.loop-index.invariant.1)
+pub returns-in_err-wire : goal.returns-in_err-wire
+returns-in_err-wire c =
+    absurd (wires_fault c.args.width c.args.opening.instructions c.loop-index.index c.loop-index.place c.loop-index.rest.now _ c.loop-index.invariant.0 (omega arith) c.in_err-wire.ensures c.loop-index.invariant.1)
 
-pub returns-in-err-before : goal.returns-in-err-before
-returns-in-err-before c =
-    let p = err_from_is_err_and c.from-residual-in-err-before.result c.from-residual-in-err-before.ensures.1 in
-    let e = c.in-ok-wire.ensures in
-    let n = wires_again c.args.width c.args.opening.instructions c.loop-index.index c.loop-index.place c.in-ok-wire.extent c.loop-index.rest.now (shown c.in-ok-wire.wire) c.loop-index.invariant.0 (omega arith) e.0 e.1 c.loop-index.invariant.1 in
+pub returns-in_err-before : goal.returns-in_err-before
+returns-in_err-before c =
+    let p = err_from_is_err_and c.from_residual-in_err-before.result c.from_residual-in_err-before.ensures.1 in
+    let e = c.in_ok-wire.ensures in
+    let n = wires_again c.args.width c.args.opening.instructions c.loop-index.index c.loop-index.place c.in_ok-wire.extent c.loop-index.rest.now (shown c.in_ok-wire.wire) c.loop-index.invariant.0 (omega arith) e.0 e.1 c.loop-index.invariant.1 in
     rw (p.1, p.2)
-    (check_stops _ c.loop-index.index c.loop-index.total c.loop-index.before _ _ c.entry-next.result (shown c.in-ok-wire.wire) c.loop-index.invariant.0 n.0 _ c.entry-next.ensures (omega (arith, c.loop-index.invariant.3)) n.1 c.in-err-before.ensures c.loop-index.invariant.2)
+    (check_stops _ c.loop-index.index c.loop-index.total c.loop-index.before _ _ c.entry-next.result (shown c.in_ok-wire.wire) c.loop-index.invariant.0 n.0 _ c.entry-next.ensures (omega (arith, c.loop-index.invariant.3)) n.1 c.in_err-before.ensures c.loop-index.invariant.2)
 
 pub loop-index-preserved : goal.loop-index-preserved
 loop-index-preserved c =
-    let e = c.in-ok-wire.ensures in
-    let n = wires_again c.args.width c.args.opening.instructions c.loop-index.index c.loop-index.place c.in-ok-wire.extent c.loop-index.rest.now (shown c.in-ok-wire.wire) c.loop-index.invariant.0 (omega arith) e.0 e.1 c.loop-index.invariant.1 in
-    let s = check_again _ c.loop-index.index c.loop-index.total c.loop-index.before c.in-ok-before.before _ _ c.entry-next.result (shown c.in-ok-wire.wire) c.loop-index.invariant.0 n.0 _ c.entry-next.ensures (omega (arith, c.loop-index.invariant.3)) n.1 c.in-ok-before.ensures c.loop-index.invariant.2 c.loop-index.invariant.3 in (
+    let e = c.in_ok-wire.ensures in
+    let n = wires_again c.args.width c.args.opening.instructions c.loop-index.index c.loop-index.place c.in_ok-wire.extent c.loop-index.rest.now (shown c.in_ok-wire.wire) c.loop-index.invariant.0 (omega arith) e.0 e.1 c.loop-index.invariant.1 in
+    let s = check_again _ c.loop-index.index c.loop-index.total c.loop-index.before c.in_ok-before.before _ _ c.entry-next.result (shown c.in_ok-wire.wire) c.loop-index.invariant.0 n.0 _ c.entry-next.ensures (omega (arith, c.loop-index.invariant.3)) n.1 c.in_ok-before.ensures c.loop-index.invariant.2 c.loop-index.invariant.3 in (
       n.0,
       n.2,
       s.0,
       s.1,
-      place_again c.loop-index.place c.in-ok-wire.extent _ c.loop-index.rest.now e.2 c.loop-index.invariant.4,
+      place_again c.loop-index.place c.in_ok-wire.extent _ c.loop-index.rest.now e.2 c.loop-index.invariant.4,
       omega arith,
     )

@@ -12,11 +12,11 @@ codes g =
     let met = g.met.U.WireUnit in
     record { length_written = met.length_written; parsed_written = met.parsed_written; written_parsed = met.written_parsed; frame_fits = met.frame_fits }
 
-pub overflow-add-length : goal.overflow-add-length
-overflow-add-length g c =
+pub overflow_add-length : goal.overflow_add-length
+overflow_add-length g c =
     let d = parts_of c.args.delta.now in
-    let l = lawful_from d c.in-ok-check.field-0 c.in-ok-check.ensures in
-    let t = length_turn g.U.WireUnit (codes g) d (take (d.head.instructions - 0) d.table) c.loop-instruction.length c.extent-of-length.result c.byte-width-width.result c.loop-instruction.instruction-index _ (front_is d.head.instructions d.table) l (omega arith) c.byte-width-width.ensures c.extent-of-length.ensures c.loop-instruction.invariant in
+    let l = lawful_from d c.in_ok-check.field-0 c.in_ok-check.ensures in
+    let t = length_turn g.U.WireUnit (codes g) d (take (d.head.instructions - 0) d.table) c.loop-instruction.length c.extent_of-length.result c.byte_width-width.result c.loop-instruction.instruction-index _ (front_is d.head.instructions d.table) l (omega arith) c.byte_width-width.ensures c.extent_of-length.ensures c.loop-instruction.invariant in
     let b : d.head.target ≤ 65535 = grind arith in
     let f = frame_fits g.U.WireUnit (codes g) d l b in
     record { fits = omega arith }
@@ -24,13 +24,13 @@ overflow-add-length g c =
 pub loop-instruction-preserved : goal.loop-instruction-preserved
 loop-instruction-preserved g c =
     let d = parts_of c.args.delta.now in
-    let l = lawful_from d c.in-ok-check.field-0 c.in-ok-check.ensures in
-    (length_turn g.U.WireUnit (codes g) d (take (d.head.instructions - 0) d.table) c.loop-instruction.length c.extent-of-length.result c.byte-width-width.result c.loop-instruction.instruction-index _ (front_is d.head.instructions d.table) l (omega arith) c.byte-width-width.ensures c.extent-of-length.ensures c.loop-instruction.invariant).0
+    let l = lawful_from d c.in_ok-check.field-0 c.in_ok-check.ensures in
+    (length_turn g.U.WireUnit (codes g) d (take (d.head.instructions - 0) d.table) c.loop-instruction.length c.extent_of-length.result c.byte_width-width.result c.loop-instruction.instruction-index _ (front_is d.head.instructions d.table) l (omega arith) c.byte_width-width.ensures c.extent_of-length.ensures c.loop-instruction.invariant).0
 
 pub returns : goal.returns
 returns g c =
     let d = parts_of c.args.delta.now in
-    let l = lawful_from d c.in-ok-check.field-0 c.in-ok-check.ensures in
+    let l = lawful_from d c.in_ok-check.field-0 c.in_ok-check.ensures in
     let e = length_last g.U.WireUnit (codes g) d (take (d.head.instructions - 0) d.table) c.loop-instruction.length c.loop-instruction.instruction-index _ (omega arith) c.loop-instruction.invariant in
     let b : d.head.target ≤ 65535 = grind arith in
     let f = frame_fits g.U.WireUnit (codes g) d l b in

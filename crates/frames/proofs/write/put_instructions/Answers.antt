@@ -7,8 +7,8 @@ use Rattle.frames.specs.Writing.{wire_of}
 use Rattle.frames.proofs.Filling.{write_again, left_again, left_holds, left_none}
 use Rattle.frames.proofs.write.put_instructions.Goals as goal
 
-pub put-instruction-end-requires : goal.put-instruction-end-requires
-put-instruction-end-requires g c =
+pub put_instruction-end-requires : goal.put_instruction-end-requires
+put_instruction-end-requires g c =
     let is = c.args.instructions.now in
     let us = c.args.units.now in
     let k = c.loop-instruction.instruction-index in
@@ -23,8 +23,8 @@ loop-instruction-preserved g c =
     let is = c.args.instructions.now in
     let us = c.args.units.now in
     let k = c.loop-instruction.instruction-index in (
-      write_again (λ i. wire_bytes (wire_of g.U.WireUnit us i)) is k c.loop-instruction.end _ blank_instruction c.loop-instruction.out _ _ (omega arith) c.put-instruction-end.ensures.out c.put-instruction-end.ensures.end c.loop-instruction.invariant.0,
-      left_again (λ i. wire_bytes (wire_of g.U.WireUnit us i)) is k c.loop-instruction.end _ _ blank_instruction (omega arith) c.put-instruction-end.ensures.end c.loop-instruction.invariant.1,
+      write_again (λ i. wire_bytes (wire_of g.U.WireUnit us i)) is k c.loop-instruction.end _ blank_instruction c.loop-instruction.out _ _ (omega arith) c.put_instruction-end.ensures.out c.put_instruction-end.ensures.end c.loop-instruction.invariant.0,
+      left_again (λ i. wire_bytes (wire_of g.U.WireUnit us i)) is k c.loop-instruction.end _ _ blank_instruction (omega arith) c.put_instruction-end.ensures.end c.loop-instruction.invariant.1,
     )
 
 pub returns : goal.returns

@@ -2,8 +2,8 @@ use Rattle.std.proofs.Common.{length, ap, ◌∙◌, arith, rules}
 use Rattle.frames.proofs.Filling.{put_sets, write_again, left_again, left_holds, left_none}
 use Rattle.frames.proofs.write.put_units.Goals as goal
 
-pub slice-bounds-write-end : goal.slice-bounds-write-end
-slice-bounds-write-end g c =
+pub slice_bounds-write-end : goal.slice_bounds-write-end
+slice_bounds-write-end g c =
     let x = c.unit-item.result in
     let n = ap (λ y. length (g.U.WireUnit.written y)) c.unit-item.is in
     let w = g.met.U.WireUnit.length_written x in
@@ -17,9 +17,9 @@ loop-unit-preserved g c =
     let n = ap (λ y. length (g.U.WireUnit.written y)) c.unit-item.is in
     let w = g.met.U.WireUnit.length_written x in
     let r = left_holds g.U.WireUnit.written c.args.units.now i c.loop-unit.end _ x (omega arith) c.loop-unit.invariant.1 in
-    let p = put_sets c.loop-unit.end _ c.loop-unit.out _ _ (c.write.ensures ∙ ap g.U.WireUnit.written c.unit-item.is) (omega (arith, c.byte-width-width.ensures)) (omega arith) in (
-      write_again g.U.WireUnit.written c.args.units.now i c.loop-unit.end _ x c.loop-unit.out _ _ (omega arith) p (omega (arith, c.byte-width-width.ensures)) c.loop-unit.invariant.0,
-      left_again g.U.WireUnit.written c.args.units.now i c.loop-unit.end _ _ x (omega arith) (omega (arith, c.byte-width-width.ensures)) c.loop-unit.invariant.1,
+    let p = put_sets c.loop-unit.end _ c.loop-unit.out _ _ (c.write.ensures ∙ ap g.U.WireUnit.written c.unit-item.is) (omega (arith, c.byte_width-width.ensures)) (omega arith) in (
+      write_again g.U.WireUnit.written c.args.units.now i c.loop-unit.end _ x c.loop-unit.out _ _ (omega arith) p (omega (arith, c.byte_width-width.ensures)) c.loop-unit.invariant.0,
+      left_again g.U.WireUnit.written c.args.units.now i c.loop-unit.end _ _ x (omega arith) (omega (arith, c.byte_width-width.ensures)) c.loop-unit.invariant.1,
     )
 
 pub returns : goal.returns

@@ -9,11 +9,11 @@ returns g c =
     let met = g.met.U.WireUnit in
     let codes : Codes g.U.WireUnit = record { length_written = met.length_written; parsed_written = met.parsed_written; written_parsed = met.written_parsed; frame_fits = met.frame_fits } in
     let d = parts_of c.args.delta.now in
-    let n = c.in-ok-length.length in
-    let e = c.in-ok-length.ensures.answer in
+    let n = c.in_ok-length.length in
+    let e = c.in_ok-length.ensures.answer in
     let s = length_says g.U.WireUnit d n e in
     record {
       answer = write_ok g.U.WireUnit d n (length c.args.out.now) e (omega arith);
-      out = c.write-lawful.ensures;
-      read_back = emitted_again g.U.WireUnit codes d n _ _ s.0 c.note-16-bits.ensures c.note-16-bits-2.ensures s.1 c.write-lawful.ensures;
+      out = c.write_lawful.ensures;
+      read_back = emitted_again g.U.WireUnit codes d n _ _ s.0 c.note_16_bits.ensures c.note_16_bits-2.ensures s.1 c.write_lawful.ensures;
     }

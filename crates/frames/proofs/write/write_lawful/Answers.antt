@@ -8,8 +8,8 @@ use Rattle.frames.proofs.RoundTrips.{length_frame}
 use Rattle.frames.proofs.Emitting.{length_says, emitted}
 use Rattle.frames.proofs.write.write_lawful.Goals as goal
 
-pub put-instructions-requires : goal.put-instructions-requires
-put-instructions-requires g c =
+pub put_instructions-requires : goal.put_instructions-requires
+put_instructions-requires g c =
     let d = parts_of c.args.delta.now in
     let s = length_says g.U.WireUnit d c.args.size c.requires.size in
     let n = length_frame g.U.WireUnit d in
@@ -22,4 +22,4 @@ returns g c =
     let s = length_says g.U.WireUnit d c.args.size c.requires.size in
     let p = passed d s.0 in
     let long = length_frame g.U.WireUnit d in
-    emitted g.U.WireUnit d _ _ _ _ _ c.args.out.now _ _ (omega (arith, c.requires.fits, s.1, long)) c.kind-number-kind.ensures (omega (arith, p.few)) (front_is d.head.inserted d.units) (front_is d.head.instructions d.table) (omega (arith, s.1)) c.put-opening.ensures c.put-instructions.ensures
+    emitted g.U.WireUnit d _ _ _ _ _ c.args.out.now _ _ (omega (arith, c.requires.fits, s.1, long)) c.kind_number-kind.ensures (omega (arith, p.few)) (front_is d.head.inserted d.units) (front_is d.head.instructions d.table) (omega (arith, s.1)) c.put_opening.ensures c.put_instructions.ensures

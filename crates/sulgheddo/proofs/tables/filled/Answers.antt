@@ -5,6 +5,6 @@ use Rattle.sulgheddo.proofs.tables.filled.Goals as goal
 
 pub loop-i-preserved : goal.loop-i-preserved
 loop-i-preserved g c =
-    chosen _ _ _ _ c.push.ensures.items (ap is_ok c.in-ok-push.was)
+    chosen _ _ _ _ c.push.ensures.items (ap is_ok c.in_ok-push.was)
     ∙ ap (λ l. l ++ c.args.value ∷ []) c.loop-i.invariant
     ∙ replicate_more c.loop-i.-i c.args.value

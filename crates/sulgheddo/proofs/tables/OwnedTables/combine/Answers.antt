@@ -12,16 +12,16 @@ returns g c =
     let said = c.combine.ensures in
     let first = c.lent.ensures in
     let second = c.lent-2.ensures in
-    let is = c.as-mut-slice.ensures in
-    let us = c.as-mut-slice-2.ensures in
+    let is = c.as_mut_slice.ensures in
+    let us = c.as_mut_slice-2.ensures in
     record {
       answer = said.answer ∙ (λ i. combine_answer (first i) (second i) (is.len i) (us.len i));
       instructions =
-          take_at _ _ _ (c.combine.auto.out-instructions ∙ is.len)
+          take_at _ _ _ (c.combine.auto.out_instructions ∙ is.len)
           ∙ said.instructions
           ∙ (λ i. left_in c.combine.result (is.value i) (runs (combined_origins (first i) (second i))) blank_instruction);
       units =
-          take_at _ _ _ (c.combine.auto.out-units ∙ us.len)
+          take_at _ _ _ (c.combine.auto.out_units ∙ us.len)
           ∙ said.units
           ∙ (λ i. left_in c.combine.result (us.value i) (inserts (combined_origins (first i) (second i))) g.U.Unit.blank);
     }

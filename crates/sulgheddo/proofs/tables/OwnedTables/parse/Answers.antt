@@ -8,19 +8,19 @@ use Rattle.sulgheddo.proofs.tables.OwnedTables.parse.Goals as goal
 
 pub returns : goal.returns
 returns g c =
-    let said = c.read-frame.ensures in
+    let said = c.read_frame.ensures in
     let f = c.args.frame.now in
     let read = parsed_frame g.U.WireUnit f in
-    let is = c.as-mut-slice.ensures in
-    let us = c.as-mut-slice-2.ensures in
+    let is = c.as_mut_slice.ensures in
+    let us = c.as_mut_slice-2.ensures in
     record {
       answer = said.answer ∙ (λ i. read_answer g.U.WireUnit f (is.len i) (us.len i));
       instructions =
-          take_at _ _ _ (c.read-frame.auto.instructions ∙ is.len)
+          take_at _ _ _ (c.read_frame.auto.instructions ∙ is.len)
           ∙ said.instructions
-          ∙ (λ i. left_in c.read-frame.result (is.value i) (held read (λ d. d.table)) blank_instruction);
+          ∙ (λ i. left_in c.read_frame.result (is.value i) (held read (λ d. d.table)) blank_instruction);
       units =
-          take_at _ _ _ (c.read-frame.auto.units ∙ us.len)
+          take_at _ _ _ (c.read_frame.auto.units ∙ us.len)
           ∙ said.units
-          ∙ (λ i. left_in c.read-frame.result (us.value i) (held read (λ d. d.units)) g.U.Unit.blank);
+          ∙ (λ i. left_in c.read_frame.result (us.value i) (held read (λ d. d.units)) g.U.Unit.blank);
     }

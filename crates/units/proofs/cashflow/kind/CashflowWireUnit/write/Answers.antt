@@ -11,9 +11,9 @@ returns c =
     let d = c.args.self.day in
     let a = of_z w64 c.args.self.amount in
     let fits : SFits w64 c.args.self.amount = record { sfits = c.args.self.fits_amount } in
-    let day : c.copy-from-slice.new.self ≡ big_endian 4 d =
-    c.copy-from-slice.ensures.after ∙ c.to-be-bytes.ensures ∙ rw (div-one d) in
-    let amount : c.copy-from-slice-2.new.self ≡ big_endian 8 (of_z w64 (to_z w64 a)) =
-    c.copy-from-slice-2.ensures.after ∙ c.to-be-bytes-2.ensures ∙ rw (div-one (of_z w64 (to_z w64 a))) in
-    put_both 4 8 c.args.out.now _ c.copy-from-slice-2.new.self c.requires (ap length day)
+    let day : c.copy_from_slice.new.self ≡ big_endian 4 d =
+    c.copy_from_slice.ensures.after ∙ c.to_be_bytes.ensures ∙ rw (div-one d) in
+    let amount : c.copy_from_slice-2.new.self ≡ big_endian 8 (of_z w64 (to_z w64 a)) =
+    c.copy_from_slice-2.ensures.after ∙ c.to_be_bytes-2.ensures ∙ rw (div-one (of_z w64 (to_z w64 a))) in
+    put_both 4 8 c.args.out.now _ c.copy_from_slice-2.new.self c.requires (ap length day)
     ∙ ap₂ (λ (x y : List ℕ). x ++ y) day (amount ∙ ap (big_endian 8) (of_z-to_z w64 a (Fits-of_z fits).fits))

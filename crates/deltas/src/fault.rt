@@ -1,7 +1,6 @@
-// Faults of one delta.
 ghost use Rattle.std.specs.Prelude.{◌≡◌};
-ghost use Rattle.faults.specs.declared.delta.NormalFault.TheVariants.{Unlawful};
-ghost use Rattle.faults.specs.Refusals.{delta_refusal};
+ghost use Rattle.deltas.specs.declared.fault.NormalFault.TheVariants.{Unlawful};
+ghost use Rattle.deltas.specs.Refusals.{delta_refusal, pair_refusal, pair_side};
 
 use units::{Layer, Refusal};
 
@@ -21,6 +20,24 @@ pub enum DeltaFault {
     TargetLength(usize),
     // the inserted lengths do not add up to the inserted count
     InsertedCount(usize),
+}
+
+// Which of two deltas: the one that is applied first, or the one after it.
+#[derive(Clone, Copy, PartialEq, Eq, Debug)]
+pub enum Side {
+    Earlier,
+    Later,
+}
+
+// Why two deltas are not combined.
+#[derive(Clone, Copy, PartialEq, Eq, Debug)]
+pub enum PairFault {
+    // one of the two is not lawful
+    Unsound(Side, DeltaFault),
+    // the later delta's source length, which is not the earlier one's target length
+    Lengths(u16),
+    // an output table has fewer entries than this, the later target length
+    Short(u16),
 }
 
 // Why a delta is not normalised. It has no refusal number: who calls for a normal form gives it one.
@@ -57,6 +74,37 @@ impl DeltaFault {
             number,
             layer: Layer::Delta,
             place,
+        }
+    }
+}
+
+impl PairFault {
+    // The fault as users know it.
+    pub fn refusal(self) -> Refusal
+        ensures { result ≡ pair_refusal self }
+    {
+        match self {
+            PairFault::Unsound(_, fault) => fault.refusal(),
+            PairFault::Lengths(source) => Refusal {
+                number: 11,
+                layer: Layer::Pair,
+                place: source as usize,
+            },
+            PairFault::Short(need) => Refusal {
+                number: 31,
+                layer: Layer::Pair,
+                place: need as usize,
+            },
+        }
+    }
+
+    // Which of the two deltas is at fault, where it is one of them.
+    pub fn side(self) -> Option<Side>
+        ensures { result ≡ pair_side self }
+    {
+        match self {
+            PairFault::Unsound(side, _) => Some(side),
+            _ => None,
         }
     }
 }
