@@ -16,6 +16,10 @@ use Rattle.frames.specs.Instructions.{Wire, copy, insert, extent, inserts_of}
 -- How bytes are read as the frame of a delta. A kind of unit is c: its number, its width, and how its units are written
 -- and read.
 
+-- a kind of unit by its number, its width, and how its units are written and read
+abbrev pub code : {U : Type 0} → ℕ → ℕ → (U → List ℕ) → (List ℕ → U) → Ghosts U
+code k w written parsed = record { kind = k; width = w; written = written; parsed = parsed }
+
 -- what goes on from an answer; a fault ends it
 abbrev pub then : {X Y E : Type 0} → Result X E → (X → Result Y E) → Result Y E
 then (Ok x) f = f x

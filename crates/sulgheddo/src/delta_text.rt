@@ -2,7 +2,7 @@ ghost use Rattle.std.specs.Prelude.{◌≡◌, ◌≤◌, take, drop, IfOk, Ok, 
 ghost use Rattle.deltas.specs.Check.{parts_of};
 ghost use Rattle.faults.specs.declared.frame.WriteFault.TheVariants.{Unlawful};
 ghost use Rattle.frames.specs.Outcomes.{length_answer};
-ghost use Rattle.frames.specs.Reading.{with_fault};
+ghost use Rattle.frames.specs.Reading.{code, with_fault};
 ghost use Rattle.frames.specs.Writing.{encoded};
 ghost use Rattle.sulgheddo.specs.Lines.{unread};
 ghost use Rattle.sulgheddo.specs.Tables.{delta_of};
@@ -84,7 +84,7 @@ impl<U: TextUnit> OwnedDelta<U> {
 
     // The delta's frame, in just as many bytes, or why the delta has none.
     pub(crate) fn to_frame(&self, heap: Global) -> Result<Result<Vec<u8>, WriteFault>, AllocError>
-        ensures { IfOk result (λ a. MatchResult a (λ f. (length_answer U.WireUnit (delta_of self.now) ≡ Ok (vec_len f)) × (f.items ≡ encoded U.WireUnit (delta_of self.now))) (λ e. with_fault Unlawful (length_answer U.WireUnit (delta_of self.now)) ≡ Err e)) }
+        ensures { IfOk result (λ a. MatchResult a (λ f. (length_answer (code U.kind U.width U.written U.parsed) (delta_of self.now) ≡ Ok (vec_len f)) × (f.items ≡ encoded (code U.kind U.width U.written U.parsed) (delta_of self.now))) (λ e. with_fault Unlawful (length_answer (code U.kind U.width U.written U.parsed) (delta_of self.now)) ≡ Err e)) }
     {
         let delta = self.lent();
         let length = match frame_length(&delta) {

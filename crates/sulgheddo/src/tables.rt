@@ -5,7 +5,7 @@ ghost use Rattle.combining.specs.Normal.{runs};
 ghost use Rattle.deltas.specs.Origins.{inserts};
 ghost use Rattle.combining.specs.Outcomes.{combine_answer, left_in};
 ghost use Rattle.frames.specs.Outcomes.{read_answer, held};
-ghost use Rattle.frames.specs.Reading.{parsed_frame};
+ghost use Rattle.frames.specs.Reading.{code, parsed_frame};
 ghost use Rattle.sulgheddo.specs.Tables.{Blank, delta_of};
 
 use crate::delta_text::OwnedDelta;
@@ -74,9 +74,9 @@ impl<U: TextUnit> OwnedTables<U> {
 
     // Reads a frame into the tables.
     pub(crate) fn parse(&mut self, frame: &[u8]) -> Result<Head, ReadFault>
-        ensures answer { result ≡ read_answer U.WireUnit frame.now (vec_len self.old.instructions) (vec_len self.old.units) }
-        ensures instructions { self.new.instructions.items ≡ left_in result self.old.instructions.items (held (parsed_frame U.WireUnit frame.now) (λ d. d.table)) blank_instruction }
-        ensures units { self.new.units.items ≡ left_in result self.old.units.items (held (parsed_frame U.WireUnit frame.now) (λ d. d.units)) U.Unit.blank }
+        ensures answer { result ≡ read_answer (code U.kind U.width U.written U.parsed) frame.now (vec_len self.old.instructions) (vec_len self.old.units) }
+        ensures instructions { self.new.instructions.items ≡ left_in result self.old.instructions.items (held (parsed_frame (code U.kind U.width U.written U.parsed) frame.now) (λ d. d.table)) blank_instruction }
+        ensures units { self.new.units.items ≡ left_in result self.old.units.items (held (parsed_frame (code U.kind U.width U.written U.parsed) frame.now) (λ d. d.units)) U.Unit.blank }
     {
         read_frame(
             frame,
