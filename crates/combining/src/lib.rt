@@ -1,4 +1,5 @@
 // The normal form of a delta, combining two deltas into one, and the laws of combining.
+#![tactic(auto)]
 
 mod form;
 mod joining;

@@ -1,16 +1,13 @@
 -- The check's definition, step by step as the loop goes.
-use Rattle.std.proofs.Common.{◌≡◌, ℕ, ◌+◌, ◌-◌, ◌<◌, ◌≤◌, true, false, cond, eqb, List, length, get_or, take, drop, Ok, Err, sym, ap, ◌∙◌, arith}
+use Rattle.std.proofs.Common.{◌≡◌, ℕ, ◌+◌, ◌-◌, ◌<◌, ◌≤◌, false, List, length, get_or, take, drop, Ok, Err, sym, ap, ◌∙◌, arith}
 use native.Mathlib.Nat.{sub-zero}
 use Rattle.std.proofs.lemmas.Bool.Decides.{nat_tests}
 use Rattle.std.proofs.lemmas.List.{drop_more, at_drop_all, length-take}
 use Rattle.deltas.specs.declared.instruction.Instruction.{Instruction}
-use Rattle.deltas.specs.declared.instruction.Op.{Op}
-use Rattle.deltas.specs.declared.instruction.Op.TheVariants.{Copy, Insert}
 use Rattle.deltas.specs.declared.delta.Head.{Head}
 use Rattle.deltas.specs.declared.fault.DeltaFault.{DeltaFault}
-use Rattle.deltas.specs.declared.fault.DeltaFault.TheVariants.{EmptyInstruction}
 use Rattle.deltas.specs.Instructions.{blank_instruction}
-use Rattle.deltas.specs.Check.{Parts, checked, passes, walked, stepped, placed, totalled, instructions_of}
+use Rattle.deltas.specs.Check.{Parts, checked, passes, walked, stepped, totalled, instructions_of}
 
 -- `&xs[0..n]` as the checker reads it
 pub front_is : {X : Type 0} (n : ℕ) (xs : List X) → take (n - 0) xs ≡ take n xs

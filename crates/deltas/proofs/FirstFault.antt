@@ -13,7 +13,7 @@ use Rattle.deltas.specs.Check.{Parts, instructions_of, placed, stepped, totalled
 use Rattle.deltas.specs.Places.{total}
 use Rattle.deltas.specs.Meaning.{inserted_by, inserted_in, Placed, Good, GoodBefore, Counted, Meets, Faulty, Fails, CheckMeans}
 use Rattle.deltas.proofs.Checks.{walked_on, walked_stops, walked_ends}
-use Rattle.deltas.proofs.Sound.{Sound, Passed, passed, lawful, stepped_facts, not_passes}
+use Rattle.deltas.proofs.Sound.{Sound, passed, lawful, stepped_facts, not_passes}
 
 -- One after another, and by indices.
 

@@ -1,5 +1,6 @@
 // Deltas: how one version of a run of units is made from another by copies and inserts; their check,
 // and the faults of one delta and of two that are to be combined.
+#![tactic(auto)]
 
 mod check;
 mod delta;

@@ -1,4 +1,5 @@
 // The faults of frames: why bytes are refused, with number, layer and place.
+#![tactic(auto)]
 
 mod frame;
 

@@ -1,4 +1,5 @@
 // Deltas as bytes: a frame is checked, read into tables, and written.
+#![tactic(auto)]
 
 mod check;
 mod laws;

@@ -20,24 +20,32 @@ use std::fmt::Display;
 use std::fs::File;
 use std::io::{BufRead, BufReader};
 use std::iter::Skip;
+use std::process::ExitCode;
 use words::{Quoted, Words};
 
 // The run ended early, and standard error says why.
 struct Stopped;
 
-fn main(rt: HostRuntime) -> Result<(), Stopped> {
-    let files = match env::args(&rt) {
+fn main(rt: HostRuntime) -> ExitCode {
+    match run(&rt) {
+        Ok(()) => ExitCode::SUCCESS,
+        Err(Stopped) => ExitCode::FAILURE,
+    }
+}
+
+fn run(rt: &HostRuntime) -> Result<(), Stopped> {
+    let files = match env::args(rt) {
         Ok(names) => names.skip(1),
-        Err(error) => return Err(stop(&rt, error)),
+        Err(error) => return Err(stop(rt, error)),
     };
     let Ok(mut client) = Client::new(rt.alloc()) else {
-        return Err(stop(&rt, "out of memory"));
+        return Err(stop(rt, "out of memory"));
     };
-    replay(&rt, &mut client, files)?;
+    replay(rt, &mut client, files)?;
     let tally = client.tally();
     match println!(rt; "end: {tally}") {
         Ok(()) => Ok(()),
-        Err(error) => Err(stop(&rt, error)),
+        Err(error) => Err(stop(rt, error)),
     }
 }
 
@@ -51,14 +59,23 @@ fn replay(rt: &HostRuntime, client: &mut Client, files: Skip<Args>) -> Result<()
     let mut lines = 0;
     let mut from_files = false;
     for name in files {
-        match File::open(rt, name.as_str()) {
-            Ok(file) => lines = replay_input(rt, client, lines, BufReader::new(file))?,
+        let input = match File::open(rt, name.as_str()) {
+            Ok(file) => BufReader::new(rt.alloc(), file),
+            Err(error) => Err(error),
+        };
+        match input {
+            Ok(input) => lines = replay_input(rt, client, lines, input)?,
             Err(error) => return Err(stop(rt, format_args!("{name}: {error}"))),
         }
         from_files = true;
     }
     if !from_files {
-        replay_input(rt, client, lines, BufReader::new(rt.stdin()))?;
+        match BufReader::new(rt.alloc(), rt.stdin()) {
+            Ok(input) => {
+                replay_input(rt, client, lines, input)?;
+            }
+            Err(error) => return Err(stop(rt, error)),
+        }
     }
     Ok(())
 }

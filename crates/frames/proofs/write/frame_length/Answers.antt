@@ -1,4 +1,4 @@
-use Rattle.std.proofs.Common.{◌-◌, ◌≤◌, length, take, arith}
+use Rattle.std.proofs.Common.{◌-◌, ◌≤◌, take, arith}
 use Rattle.deltas.specs.Check.{parts_of}
 use Rattle.deltas.proofs.Checks.{front_is}
 use Rattle.frames.proofs.Codes.{Codes}
