@@ -4,7 +4,7 @@ use native.Mathlib.Nat.{sub-zero}
 use Rattle.std.proofs.lemmas.Bool.Decides.{nat_tests}
 use Rattle.std.proofs.lemmas.List.{length-take, length-take-le, length-append, take_at}
 use Rattle.std.proofs.ByRecursion.{All-weaker}
-use Rattle.std.specs.List.{AllByRecursion as All}
+use Rattle.std.specs.List.{AllByRecursion}
 use Rattle.deltas.specs.declared.instruction.Instruction.{Instruction}
 use Rattle.deltas.specs.declared.instruction.Op.{Op}
 use Rattle.deltas.specs.declared.instruction.Op.TheVariants.{Copy, Insert}
@@ -56,12 +56,12 @@ inside_more s t m Copy p n l h = omega arith
 inside_more s t m Insert p n l h = h
 
 -- the instructions of a lawful delta fit its source, and its own units, as a function is handed them
-pub ready : {U : Type 0} (d : Parts U) (s : ℕ) → Lawful d → d.head.source ≤ s → All (Fits s (length (take (d.head.inserted - 0) d.units))) (take (d.head.instructions - 0) d.table)
+pub ready : {U : Type 0} (d : Parts U) (s : ℕ) → Lawful d → d.head.source ≤ s → AllByRecursion (Fits s (length (take (d.head.inserted - 0) d.units))) (take (d.head.instructions - 0) d.table)
 ready d s l h =
     let p = passed d l in
     let m : d.head.inserted ≡ length (units_of d) = sym (length-take-le d.head.inserted d.units p.inserted) in
     simp sub-zero
-    (subst (λ k. All (Fits s k) (instructions_of d)) m
+    (subst (λ k. AllByRecursion (Fits s k) (instructions_of d)) m
     (All-weaker (Fits d.head.source d.head.inserted) (Fits s d.head.inserted) (λ i f. (f.0, inside_more d.head.source s d.head.inserted i.op i.from i.length h f.1)) (instructions_of d) (lawful_fits d l)))
 
 -- and give as many places as its target has

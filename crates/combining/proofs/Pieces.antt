@@ -3,7 +3,7 @@ use Rattle.std.proofs.Common.{◌≡◌, ℕ, zero, suc, ◌+◌, ◌-◌, ◌<�
 use lib.Seq.{take-append-le, drop-append-le, drop-append-add}
 use Rattle.std.proofs.lemmas.List.{take_more, take-take, drop-take, drop-drop, take-map, drop-map, length-drop}
 use Rattle.std.proofs.ByRecursion.{All-get_or}
-use Rattle.std.specs.List.{AllByRecursion as All}
+use Rattle.std.specs.List.{AllByRecursion}
 use Rattle.deltas.specs.declared.instruction.Instruction.{Instruction}
 use Rattle.deltas.specs.declared.instruction.Op.{Op}
 use Rattle.deltas.specs.declared.instruction.Op.TheVariants.{Copy, Insert}
@@ -67,7 +67,7 @@ given_cut us Insert p n k m l =
     ∙ ap (λ vs. map inserted (take m vs)) (drop-drop k p us)
 
 -- a part of one instruction, as places of the whole
-pub piece_at : {U : Type 0} (s m : ℕ) (us : List U) (is : List Instruction) (index offset n : ℕ) → All (Fits s m) is → m ≤ length us → index < length is → offset + n ≤ (get_or is index blank_instruction).length → given us (get_or is index blank_instruction).op ((get_or is index blank_instruction).from + offset) n ≡ take n (drop (place_at is index offset) (origins us is))
+pub piece_at : {U : Type 0} (s m : ℕ) (us : List U) (is : List Instruction) (index offset n : ℕ) → AllByRecursion (Fits s m) is → m ≤ length us → index < length is → offset + n ≤ (get_or is index blank_instruction).length → given us (get_or is index blank_instruction).op ((get_or is index blank_instruction).from + offset) n ≡ take n (drop (place_at is index offset) (origins us is))
 piece_at s m us [] index offset n a l h b = absurd (omega arith)
 piece_at s m us (i ∷ is) zero offset n a l h b =
     let e = length_piece us i s m a.0 l in
@@ -87,7 +87,7 @@ piece_at s m us (i ∷ is) (suc index) offset n a l h b =
     ∙ ap (λ y. take n (drop y (piece us i ++ origins us is))) x
 
 -- after the rest of the found instruction, the next one stands at the next place
-pub located_next : (s m : ℕ) (is : List Instruction) (place index offset n : ℕ) → All (Fits s m) is → Located is place index offset → n ≡ (get_or is index blank_instruction).length - offset → place + n < total is → Located is (place + n) (index + 1) 0
+pub located_next : (s m : ℕ) (is : List Instruction) (place index offset n : ℕ) → AllByRecursion (Fits s m) is → Located is place index offset → n ≡ (get_or is index blank_instruction).length - offset → place + n < total is → Located is (place + n) (index + 1) 0
 located_next s m is place index offset n a h e l =
     let t = total_more is index h.within in
     let r : total (take (index + 1) is) < total is = omega (arith, h.at, h.inside) in

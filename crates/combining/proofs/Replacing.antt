@@ -1,6 +1,6 @@
 use Rattle.std.proofs.Common.{◌≡◌, ℕ, ◌+◌, ◌-◌, ◌<◌, ◌≤◌, leb, List, [], ◌∷◌, ◌++◌, length, take, drop, sym, refl, ap, ◌∙◌, subst, append_assoc, append-nil, arith, length-drop, take_all}
 use lib.Seq.{take-nil, drop-nil, take-append-le, take-append-add, drop-append-le, drop-append-add}
-use Rattle.std.specs.List.{flat_map, AllByRecursion as All}
+use Rattle.std.specs.List.{flat_map, AllByRecursion}
 use Rattle.std.proofs.lemmas.List.{map-append}
 use Rattle.std.proofs.lemmas.Bool.{cond_both, leb-true, leb-false}
 use Rattle.deltas.specs.declared.instruction.Instruction.{Instruction}
@@ -49,7 +49,7 @@ module _ {X : Type 0} (front rest : List X) (l p n : ℕ) (e : length front ≡ 
       sym (ap (take n) (drop-append-le p front rest (omega arith)))
 
 -- clones of the earlier instructions give the places that they cover
-covering_origins : {U : Type 0} (s m : ℕ) (us vs : List U) (es : List Instruction) (p n : ℕ) → All (Fits s m) es → m ≤ length us → taken_origins us vs (covering es p n) ≡ take n (drop p (origins us es))
+covering_origins : {U : Type 0} (s m : ℕ) (us vs : List U) (es : List Instruction) (p n : ℕ) → AllByRecursion (Fits s m) es → m ≤ length us → taken_origins us vs (covering es p n) ≡ take n (drop p (origins us es))
 covering_origins s m us vs [] p n f l = sym (ap (take n) (drop-nil p) ∙ take-nil n)
 covering_origins s m us vs (i ∷ es) p n f l =
     let e = length_piece us i s m f.0 l in
@@ -68,13 +68,13 @@ covering_origins s m us vs (i ∷ es) p n f l =
     ap (λ ps. ps ++ take (n - (i.length - p)) os) (sym (given_cut us i.op i.from i.length p (i.length - p) (omega arith))) ∙
     places_across (piece us i) os i.length p n e h j))
 
-module _ {U : Type 0} (s m : ℕ) (us vs : List U) (es : List Instruction) (f : All (Fits s m) es) (l : m ≤ length us) where
+module _ {U : Type 0} (s m : ℕ) (us vs : List U) (es : List Instruction) (f : AllByRecursion (Fits s m) es) (l : m ≤ length us) where
   -- one later instruction, and all of them
   replaced_one_origins : (k : ℕ) (o : Op) (p n : ℕ) → Inside (length (origins us es)) k o p n → taken_origins us vs (replaced_one es o (instruction o p n)) ≡ through (origins us es) (given vs o p n)
   replaced_one_origins k Copy p n h = covering_origins s m us vs es p n f l ∙ sym (through_copies (origins us es) p n h)
   replaced_one_origins k Insert p n h = append-nil (given vs Insert p n) ∙ sym (through_inserted (origins us es) (take n (drop p vs)))
 
-  replaced_origins : (k : ℕ) (is : List Instruction) → All (Fits (length (origins us es)) k) is → taken_origins us vs (replaced es is) ≡ through (origins us es) (origins vs is)
+  replaced_origins : (k : ℕ) (is : List Instruction) → AllByRecursion (Fits (length (origins us es)) k) is → taken_origins us vs (replaced es is) ≡ through (origins us es) (origins vs is)
   replaced_origins k [] h = refl
   replaced_origins k (i ∷ is) h =
       joined_append (λ t. piece (units_by us vs t.side) t.step) (replaced_one es i.op i) (replaced es is) ∙
@@ -85,7 +85,7 @@ module _ {U : Type 0} (s m : ℕ) (us vs : List U) (es : List Instruction) (f : 
 pub combining_is_replace : (U : Type 0) → CombiningIsReplace U
 combining_is_replace U a b la lb meet =
     let e : b.head.source ≡ length (origins_of a) = sym meet ∙ sym (length_target a la) in
-    let h : All (Fits (length (origins_of a)) b.head.inserted) (instructions_of b) = subst (λ n. All (Fits n b.head.inserted) (instructions_of b)) e (lawful_fits b lb) in
+    let h : AllByRecursion (Fits (length (origins_of a)) b.head.inserted) (instructions_of b) = subst (λ n. AllByRecursion (Fits n b.head.inserted) (instructions_of b)) e (lawful_fits b lb) in
     let u = length_units a la in
     let same : replace_origins a b ≡ combined_origins a b =
     replaced_origins a.head.source a.head.inserted (units_of a) (units_of b) (instructions_of a) (lawful_fits a la) (omega arith) b.head.inserted (instructions_of b) h in

@@ -1,6 +1,6 @@
 // The normal form of a delta: each instruction one longest run.
 ghost use Rattle.std.specs.Prelude.{◌≡◌, true, length, IfOk, Decides};
-ghost use Rattle.std.specs.List.{AllByRecursion as All};
+ghost use Rattle.std.specs.List.{AllByRecursion};
 ghost use Rattle.deltas.specs.Instructions.{blank_instruction};
 ghost use Rattle.deltas.specs.Check.{parts_of};
 ghost use Rattle.deltas.specs.Origins.{origins, origins_of, inserts};
@@ -21,7 +21,7 @@ fn write_runs<U: Unit>(
     instructions: &[Instruction],
     source: &[U],
 ) -> Written
-    requires fits { All (Fits 65535 (length source.now)) instructions.now }
+    requires fits { AllByRecursion (Fits 65535 (length source.now)) instructions.now }
     requires space { Space out.old units.old nothing_written (total instructions.now) }
     ensures { Appended (origins source.now instructions.now) out.old units.old nothing_written out.new units.new result }
 {

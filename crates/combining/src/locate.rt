@@ -1,6 +1,6 @@
 // Finding the instruction that gives a place, and taking a run of places from there on.
 ghost use Rattle.std.specs.Prelude.{◌≡◌, ◌+◌, ◌-◌, ◌<◌, ◌≤◌, min, length, take, drop};
-ghost use Rattle.std.specs.List.{AllByRecursion as All};
+ghost use Rattle.std.specs.List.{AllByRecursion};
 ghost use Rattle.deltas.specs.Origins.{origins};
 ghost use Rattle.deltas.specs.Places.{total, Fits};
 ghost use Rattle.combining.specs.Steps.{Space, Appended, Standing, place_at, Located};
@@ -68,7 +68,7 @@ pub(crate) fn splice<U: Unit>(
     found: (usize, u16),
     count: u16,
 ) -> Written
-    requires fits { All (Fits 65535 (length source.now)) instructions.now }
+    requires fits { AllByRecursion (Fits 65535 (length source.now)) instructions.now }
     requires few { length source.now ≤ 65535 }
     requires located { Located instructions.now (place_at instructions.now found.0 found.1) found.0 found.1 }
     requires inside { place_at instructions.now found.0 found.1 + count ≤ total instructions.now }

@@ -1,6 +1,6 @@
 // Combining two deltas, without building the version between them.
 ghost use Rattle.std.specs.Prelude.{◌≡◌, ◌<◌, ◌≤◌, length, IfOk};
-ghost use Rattle.std.specs.List.{AllByRecursion as All};
+ghost use Rattle.std.specs.List.{AllByRecursion};
 ghost use Rattle.deltas.specs.Instructions.{blank_instruction};
 ghost use Rattle.deltas.specs.Check.{parts_of};
 ghost use Rattle.deltas.specs.Origins.{piece, origins, inserts};
@@ -34,7 +34,7 @@ fn combine_instruction<U: Unit>(
     inserted: &[U],
     next: Instruction,
 ) -> Progress
-    requires earlier { All (Fits 65535 (length source.now)) earlier.now }
+    requires earlier { AllByRecursion (Fits 65535 (length source.now)) earlier.now }
     requires few { length source.now ≤ 65535 }
     requires fits { Fits (total earlier.now) (length inserted.now) next }
     requires space { Space out.old units.old at.written next.length }
@@ -79,9 +79,9 @@ fn write_combined<U: Unit>(
     later: &[Instruction],
     inserted: &[U],
 ) -> Written
-    requires earlier { All (Fits 65535 (length source.now)) earlier.now }
+    requires earlier { AllByRecursion (Fits 65535 (length source.now)) earlier.now }
     requires few { length source.now ≤ 65535 }
-    requires later { All (Fits (total earlier.now) (length inserted.now)) later.now }
+    requires later { AllByRecursion (Fits (total earlier.now) (length inserted.now)) later.now }
     requires space { Space out.old units.old nothing_written (total later.now) }
     ensures { Appended (through (origins source.now earlier.now) (origins inserted.now later.now)) out.old units.old nothing_written out.new units.new result }
 {

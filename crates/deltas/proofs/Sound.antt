@@ -1,5 +1,5 @@
 use Rattle.std.proofs.Common.{◌≡◌, ℕ, zero, suc, ◌+◌, ◌<◌, ◌≤◌, Bool, true, false, cond, ◌||◌, eqb, ltb, leb, List, [], ◌∷◌, ◌++◌, map, length, take, drop, Ok, Err, Result, refl, ap, ◌∙◌, arith, length-append, length-drop, length-take}
-use Rattle.std.specs.List.{AllByRecursion as All}
+use Rattle.std.specs.List.{AllByRecursion}
 use Rattle.std.proofs.lemmas.List.{length-map}
 use Rattle.std.proofs.lemmas.Bool.{cond-true, cond-false, or_parts, or_from, ltb-false, le-ltb, leb-true, le-leb, eqb-true, eqb-false, eq-eqb, ne_eqb}
 use Rattle.deltas.specs.declared.instruction.Instruction.{Instruction}
@@ -138,7 +138,7 @@ pub inside_placed : (s m k : ℕ) (o : Op) (p n : ℕ) → Placed s k o p n → 
 inside_placed s m k Copy p n h l = h
 inside_placed s m k Insert p n h l = let e : p ≡ k = h in omega arith
 
-pub sound_fits : (s m k : ℕ) (is : List Instruction) → Sound s k is → k + inserted_in is ≤ m → All (Fits s m) is
+pub sound_fits : (s m k : ℕ) (is : List Instruction) → Sound s k is → k + inserted_in is ≤ m → AllByRecursion (Fits s m) is
 sound_fits s m k [] h l = tt
 sound_fits s m k (i ∷ is) h l = (
   (h.0, inside_placed s m k i.op i.from i.length h.1 (omega arith)),
@@ -156,7 +156,7 @@ length_given us Insert p n s m h l = length-map (take n (drop p us)) inserted �
 pub length_piece : {U : Type 0} (us : List U) (i : Instruction) (s m : ℕ) → Fits s m i → m ≤ length us → length (piece us i) ≡ i.length
 length_piece us i s m f l = length_given us i.op i.from i.length s m f.1 l
 
-pub length_origins : {U : Type 0} (s m : ℕ) (us : List U) (is : List Instruction) → All (Fits s m) is → m ≤ length us → length (origins us is) ≡ total is
+pub length_origins : {U : Type 0} (s m : ℕ) (us : List U) (is : List Instruction) → AllByRecursion (Fits s m) is → m ≤ length us → length (origins us is) ≡ total is
 length_origins s m us [] f l = refl
 length_origins s m us (i ∷ is) f l = rw length-append (omega (arith, length_piece us i s m f.0 l, length_origins s m us is f.1 l))
 
@@ -177,12 +177,12 @@ within_given : {U : Type 0} (us : List U) (o : Op) (p n s m : ℕ) → Inside s 
 within_given {U} us Copy p n s m h = within_copies U s p n h
 within_given us Insert p n s m h = within_inserted s (take n (drop p us))
 
-within_all : {U : Type 0} (s m : ℕ) (us : List U) (is : List Instruction) → All (Fits s m) is → Within s (origins us is)
+within_all : {U : Type 0} (s m : ℕ) (us : List U) (is : List Instruction) → AllByRecursion (Fits s m) is → Within s (origins us is)
 within_all s m us [] f = tt
 within_all s m us (i ∷ is) f = within_append s (piece us i) (origins us is) (within_given us i.op i.from i.length s m f.0.1) (within_all s m us is f.1)
 
 -- the instructions of a lawful delta fit its source and its own units
-pub lawful_fits : {U : Type 0} (d : Parts U) → Lawful d → All (Fits d.head.source d.head.inserted) (instructions_of d)
+pub lawful_fits : {U : Type 0} (d : Parts U) → Lawful d → AllByRecursion (Fits d.head.source d.head.inserted) (instructions_of d)
 lawful_fits d l = let p = passed d l in sound_fits d.head.source d.head.inserted 0 (instructions_of d) p.sound (omega arith)
 
 pub within_origins : {U : Type 0} (d : Parts U) → Lawful d → Within d.head.source (origins_of d)

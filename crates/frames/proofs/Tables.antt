@@ -1,6 +1,6 @@
 -- A delta's tables and the instructions of a frame: each made from the other, and back.
 use Rattle.std.proofs.Common.{◌≡◌, ℕ, zero, suc, ◌+◌, ◌*◌, ◌^◌, ◌<◌, ◌≤◌, List, [], ◌∷◌, ◌++◌, map, length, get_or, take, drop, sym, refl, ap, ◌∙◌, subst, ⊎_elim, add-zero, suc-mul, add-mul, zero-mul, mul-add, arith}
-use Rattle.std.specs.List.{flat_map, AllByRecursion as All}
+use Rattle.std.specs.List.{flat_map, AllByRecursion}
 use Rattle.std.specs.Int.Digits.{AllBelowBase}
 use Rattle.std.proofs.ByRecursion.{All-take, All-drop, All-get_or}
 use Rattle.std.proofs.lemmas.List.{length-append, length-drop, length-take, length-take-le, take-append-drop, take_at, drop_at, drop-drop, drop_all, get_or_past, nil_from_length}
@@ -123,7 +123,7 @@ module _ {U : Type 0} (c : Ghosts U) (k : Codes c) where
       let bytes = units_again n bs f.1 b in
       (ap (λ (vs : List U). insert n (flat_map c.written vs)) front ∙ ap (insert n) bytes, back)
 
-  pub wires_of_entries : (us : List U) (i : ℕ) (xs : List Wire) → All (Fitting c.width) xs → All Bytely xs → drop i us ≡ flat_map (units_of_wire c) xs → map (wire_of c us) (entries i xs) ≡ xs
+  pub wires_of_entries : (us : List U) (i : ℕ) (xs : List Wire) → AllByRecursion (Fitting c.width) xs → AllByRecursion Bytely xs → drop i us ≡ flat_map (units_of_wire c) xs → map (wire_of c us) (entries i xs) ≡ xs
   wires_of_entries us i [] f b e = refl
   wires_of_entries us i (x ∷ xs) f b e =
       let one = wire_again us (flat_map (units_of_wire c) xs) i x f.0 b.0 e in
@@ -152,7 +152,7 @@ module _ {U : Type 0} (c : Ghosts U) (k : Codes c) where
       ap (λ (vs : List U). vs ++ drop (i + n) us) read ∙ subst (λ (m : ℕ). own ++ drop (m + n) us ≡ drop m us) at whole
 
   -- sound instructions fit a frame, and their units are read again from it
-  pub wires_fitting : (us : List U) (s i : ℕ) (is : List Instruction) → Sound s i is → i + inserted_in is ≤ length us → s < 256 ^ 2 → total is < 256 ^ 2 → All (Fitting c.width) (map (wire_of c us) is)
+  pub wires_fitting : (us : List U) (s i : ℕ) (is : List Instruction) → Sound s i is → i + inserted_in is ≤ length us → s < 256 ^ 2 → total is < 256 ^ 2 → AllByRecursion (Fitting c.width) (map (wire_of c us) is)
   wires_fitting us s i [] h room small short = tt
   wires_fitting us s i (j ∷ is) h room small short = (
     fitting_given us s i j.op j.from j.length h.1 (omega arith) small (omega arith),

@@ -1,6 +1,6 @@
 -- Instructions as bytes: what is read is written again, and what is written is read again.
 use Rattle.std.proofs.Common.{◌≡◌, ℕ, zero, suc, ◌+◌, ◌*◌, ◌^◌, ◌<◌, ◌≤◌, ◌⊎◌, List, [], ◌∷◌, ◌++◌, length, get_or, take, drop, Ok, Result, sym, refl, ap, ◌∙◌, subst, ⊎_elim, mod-lt, arith}
-use Rattle.std.specs.List.{flat_map, AllByRecursion as All}
+use Rattle.std.specs.List.{flat_map, AllByRecursion}
 use Rattle.std.specs.Int.Digits.{AllBelowBase}
 use Rattle.std.proofs.lemmas.List.{length-append, length-drop, length-take-le, drop_at, take_at, nil_from_length}
 use Rattle.std.proofs.ByRecursion.{All-take, All-drop}
@@ -104,29 +104,29 @@ one_more w n p bs xs h =
     (one.0, more.0, one.1, more.1, cc more.2)
 
 -- instructions that are read are as many as were asked for, and each fits
-pub wires_fit : (w n p : ℕ) (bs : List ℕ) (xs : List Wire) → wires w n p bs ≡ Ok xs → (length xs ≡ n) × All (Fitting w) xs
+pub wires_fit : (w n p : ℕ) (bs : List ℕ) (xs : List Wire) → wires w n p bs ≡ Ok xs → (length xs ≡ n) × AllByRecursion (Fitting w) xs
 wires_fit w zero p bs xs h =
-    subst (λ (ys : List Wire). (length ys ≡ 0) × All (Fitting w) ys) (sym (none_left w p bs xs h).1) (refl, tt)
+    subst (λ (ys : List Wire). (length ys ≡ 0) × AllByRecursion (Fitting w) ys) (sym (none_left w p bs xs h).1) (refl, tt)
 wires_fit w (suc n) p bs xs h =
     let s = one_more w n p bs xs h in
     let more = wires_fit w n (p + extent s.0) (drop (extent s.0) bs) s.1 s.3 in
-    subst (λ (ys : List Wire). (length ys ≡ suc n) × All (Fitting w) ys) s.4 (ap suc more.0, ((first_fits w p bs s.0 s.2).0, more.1))
+    subst (λ (ys : List Wire). (length ys ≡ suc n) × AllByRecursion (Fitting w) ys) s.4 (ap suc more.0, ((first_fits w p bs s.0 s.2).0, more.1))
 
 -- instructions that are read are written again
-pub wires_again : (w n p : ℕ) (bs : List ℕ) (xs : List Wire) → AllBelowBase 256 bs → wires w n p bs ≡ Ok xs → (flat_map wire_bytes xs ≡ bs) × All Bytely xs
+pub wires_again : (w n p : ℕ) (bs : List ℕ) (xs : List Wire) → AllBelowBase 256 bs → wires w n p bs ≡ Ok xs → (flat_map wire_bytes xs ≡ bs) × AllByRecursion Bytely xs
 wires_again w zero p bs xs u h =
     let none = none_left w p bs xs h in
-    subst (λ (ys : List Wire). (flat_map wire_bytes ys ≡ bs) × All Bytely ys) (sym none.1) (sym (nil_from_length bs none.0), tt)
+    subst (λ (ys : List Wire). (flat_map wire_bytes ys ≡ bs) × AllByRecursion Bytely ys) (sym none.1) (sym (nil_from_length bs none.0), tt)
 wires_again w (suc n) p bs xs u h =
     let s = one_more w n p bs xs h in
     let rest = drop (extent s.0) bs in
     let one = first_again w p bs s.0 u s.2 in
     let more = wires_again w n (p + extent s.0) rest s.1 (All-drop (λ (b : ℕ). b < 256) (extent s.0) bs u) s.3 in
-    subst (λ (ys : List Wire). (flat_map wire_bytes ys ≡ bs) × All Bytely ys) s.4
+    subst (λ (ys : List Wire). (flat_map wire_bytes ys ≡ bs) × AllByRecursion Bytely ys) s.4
     (ap (λ (t : List ℕ). wire_bytes s.0 ++ t) more.0 ∙ one.0, (one.1, more.1))
 
 -- instructions that fit are read again from their bytes
-pub wires_read : (w p : ℕ) (xs : List Wire) → All (Fitting w) xs → wires w (length xs) p (flat_map wire_bytes xs) ≡ Ok xs
+pub wires_read : (w p : ℕ) (xs : List Wire) → AllByRecursion (Fitting w) xs → wires w (length xs) p (flat_map wire_bytes xs) ≡ Ok xs
 wires_read w p [] f = refl
 wires_read w p (x ∷ xs) f =
     let rest = flat_map wire_bytes xs in

@@ -1,5 +1,5 @@
 use Rattle.std.specs.Prelude.{◌≡◌, ℕ, ◌+◌, ◌-◌, ◌*◌, ◌<◌, ◌≤◌, ◌⊎◌, List, length, take, drop, Ok, Err, ◌≢◌, slice_index, slice_index_or}
-use Rattle.std.specs.List.{flat_map, AllByRecursion as All}
+use Rattle.std.specs.List.{flat_map, AllByRecursion}
 use Rattle.units.specs.BigEndian.{number_at}
 use Rattle.units.specs.declared.wire.WireUnit.{Ghosts}
 use Rattle.deltas.specs.declared.fault.DeltaFault.{DeltaFault}
@@ -32,7 +32,7 @@ pub record Opened (k : ℕ) (f : List ℕ) : Type 0 where
 pub record Due (w : ℕ) (f : List ℕ) (n p : ℕ) : Type 0 where
   pub instructions : List Wire
   pub many : length instructions ≡ n
-  pub fitting : All (Fitting w) instructions
+  pub fitting : AllByRecursion (Fitting w) instructions
   pub behind : 12 ≤ p
   pub inside : p ≤ length f
   pub bytes : take (p - 12) (drop 12 f) ≡ flat_map wire_bytes instructions

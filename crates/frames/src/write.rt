@@ -1,6 +1,6 @@
 // Writing a delta as a frame.
 ghost use Rattle.std.specs.Prelude.{◌≡◌, ◌+◌, ◌*◌, ◌^◌, ◌<◌, ◌≤◌, ◌++◌, length, take, drop, IfOk, Ok};
-ghost use Rattle.std.specs.List.{flat_map, AllByRecursion as All};
+ghost use Rattle.std.specs.List.{flat_map, AllByRecursion};
 ghost use Rattle.std.proofs.lemmas.List.Edits.{sets};
 ghost use Rattle.deltas.specs.Check.{parts_of};
 ghost use Rattle.deltas.specs.Places.{Fits};
@@ -80,7 +80,7 @@ fn put_instructions<U: WireUnit>(
     units: &[U],
     instructions: &[Instruction],
 )
-    requires fits { All (Fits 65535 (length units.now)) instructions.now }
+    requires fits { AllByRecursion (Fits 65535 (length units.now)) instructions.now }
     requires room { at + length (instructions_bytes (code U.kind U.width U.written U.parsed) units.now instructions.now) ≤ length out.old }
     ensures { out.new ≡ sets out.old at (instructions_bytes (code U.kind U.width U.written U.parsed) units.now instructions.now) }
 {

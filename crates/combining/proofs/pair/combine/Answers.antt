@@ -5,7 +5,7 @@ use Rattle.deltas.specs.Origins.{inserts}
 use Rattle.combining.specs.Normal.{runs}
 use Rattle.combining.specs.Combine.{combined_origins}
 use Rattle.deltas.specs.Places.{Fits}
-use Rattle.std.specs.List.{AllByRecursion as All}
+use Rattle.std.specs.List.{AllByRecursion}
 use Rattle.deltas.proofs.Sound.{passed_any}
 use Rattle.combining.proofs.Outputs.{filled, ready, ready_total, ready_few, combine_whole, head_is, answer_ok, holds}
 use Rattle.combining.proofs.Replacing.{combining_is_replace}
@@ -23,7 +23,7 @@ write_combined-written-requires g c =
     record {
       earlier = ready a 65535 la (grind arith);
       few = ready_few a la;
-      later = subst (λ n. All (Fits n (length (take (b.head.inserted - 0) b.units))) (take (b.head.instructions - 0) b.table)) (sym c.if-first-second.false ∙ sym (ready_total a la)) (ready b b.head.source lb (omega arith));
+      later = subst (λ n. AllByRecursion (Fits n (length (take (b.head.inserted - 0) b.units))) (take (b.head.instructions - 0) b.table)) (sym c.if-first-second.false ∙ sym (ready_total a la)) (ready b b.head.source lb (omega arith));
       space = record { instructions = omega arith; inserted = omega arith; places = omega arith; numbers = omega arith };
     }
 
