@@ -1,4 +1,4 @@
--- A cashflow as bytes: its day in 4 bytes, then its amount in 8 bytes, two's complement, both big_endian.
+-- A cashflow as bytes: its day in 4 bytes, then its amount in 8 bytes, two's complement, both big-endian.
 use Rattle.std.specs.Prelude.{ℕ, ◌^◌, ◌<◌, List, ◌++◌, take, drop, pos}
 use Rattle.std.proofs.Common.{mod-lt, lit<, of_z, to_z}
 use Rattle.std.specs.Int.Signed.{mag}
