@@ -1,5 +1,6 @@
 // Carries out a list of calls, line by line, and prints what each call answered. The list is in the files
 // that are the program's arguments, one after another, or else in standard input.
+#![tactic(auto)]
 
 mod client;
 mod command;

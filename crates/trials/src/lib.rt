@@ -1,6 +1,8 @@
 // Tests of the library on examples: bad input, output tables that held something longer, and the
 // shortest and longest deltas and frames.
 
+#![tactic(auto)]
+
 #[cfg(test)]
 mod checking;
 #[cfg(test)]
