@@ -7,11 +7,18 @@ use Rattle.deltas.specs.declared.instruction.Instruction.{Instruction}
 use Rattle.deltas.specs.declared.delta.Head.{Head}
 use Rattle.deltas.specs.declared.fault.DeltaFault.{DeltaFault}
 use Rattle.deltas.specs.Instructions.{blank_instruction}
-use Rattle.deltas.specs.Check.{Parts, checked, passes, walked, stepped, totalled, instructions_of}
+use Rattle.deltas.specs.Check.{Parts, parts, own, checked, passes, walked, stepped, totalled, instructions_of}
 
 -- `&xs[0..n]` as the checker reads it
 pub front_is : {X : Type 0} (n : ℕ) (xs : List X) → take (n - 0) xs ≡ take n xs
 front_is n xs = ap (λ m. take m xs) (sub-zero n)
+
+-- a delta's own entries, as they are taken
+pub own_is : {U : Type 0} (d : Parts U) (h : Head) → h ≡ d.head → parts h (take (h.instructions - 0) d.table) (take (h.inserted - 0) d.units) ≡ own d
+own_is d h e =
+    ap (λ g. parts g (take (g.instructions - 0) d.table) (take (g.inserted - 0) d.units)) e
+    ∙ ap (λ t. parts d.head t (take (d.head.inserted - 0) d.units)) (front_is d.head.instructions d.table)
+    ∙ ap (parts d.head (instructions_of d)) (front_is d.head.inserted d.units)
 
 passes_not : (count entries : ℕ) → count ≤ entries → count ≤ 65535 → passes count entries ≡ false
 passes_not count entries a b = grind (arith, nat_tests)

@@ -1,6 +1,6 @@
-use Rattle.std.proofs.Common.{◌≡◌, ℕ, zero, suc, ◌+◌, ◌<◌, ◌≤◌, Bool, true, false, cond, ◌||◌, eqb, ltb, leb, List, [], ◌∷◌, ◌++◌, map, length, take, drop, Ok, Err, Result, refl, ap, ◌∙◌, arith, length-append, length-drop, length-take}
+use Rattle.std.proofs.Common.{◌≡◌, ℕ, zero, suc, ◌+◌, ◌<◌, ◌≤◌, Bool, true, false, cond, ◌||◌, eqb, ltb, leb, List, [], ◌∷◌, ◌++◌, map, length, take, drop, Ok, Err, Result, refl, sym, ap, subst, ◌∙◌, le_of_eq, arith, length-append, length-drop, length-take}
 use Rattle.std.specs.List.{AllByRecursion}
-use Rattle.std.proofs.lemmas.List.{length-map}
+use Rattle.std.proofs.lemmas.List.{length-map, length-take-le, take-take}
 use Rattle.std.proofs.lemmas.Bool.{cond-true, cond-false, or_parts, or_from, ltb-false, le-ltb, leb-true, le-leb, eqb-true, eqb-false, eq-eqb, ne_eqb}
 use Rattle.deltas.specs.declared.instruction.Instruction.{Instruction}
 use Rattle.deltas.specs.declared.instruction.Op.{Op}
@@ -8,7 +8,7 @@ use Rattle.deltas.specs.declared.instruction.Op.TheVariants.{Copy, Insert}
 use Rattle.deltas.specs.declared.delta.Head.{Head}
 use Rattle.deltas.specs.declared.fault.DeltaFault.{DeltaFault}
 use Rattle.deltas.specs.declared.fault.DeltaFault.TheVariants.{Counts, EmptyInstruction, CopyPastSource, InsertMisplaced, TargetLength, InsertedCount}
-use Rattle.deltas.specs.Check.{Parts, instructions_of, units_of, placed, stepped, totalled, walked, passes, checked, Lawful}
+use Rattle.deltas.specs.Check.{Parts, parts, instructions_of, units_of, own, placed, stepped, totalled, walked, passes, checked, Lawful}
 use Rattle.deltas.specs.Origins.{Origin, copied, inserted, copies, given, piece, origins, origins_of, Within}
 use Rattle.deltas.specs.Places.{total, Inside, Fits}
 pub use Rattle.deltas.specs.Meaning.{inserted_by, inserted_in, Placed}
@@ -98,7 +98,7 @@ walked_back h k t n (i ∷ is) s e f =
     walked_back h (k + 1) (t + i.length) (n + inserted_by i.op i.length) is s.2 (omega arith) (omega arith)
 
 -- the check's answer as facts; the head that it answers is the delta's own
-checked_facts : {U : Type 0} (d : Parts U) (h : Head) → checked d ≡ Ok h → Passed d × (h ≡ d.head)
+pub checked_facts : {U : Type 0} (d : Parts U) (h : Head) → checked d ≡ Ok h → Passed d × (h ≡ d.head)
 checked_facts d h e =
     let a = ok_unless (passes d.head.instructions (length d.table) || passes d.head.inserted (length d.units)) (walked d.head 0 0 0 (instructions_of d)) Counts h e in
     let p = or_parts (passes d.head.instructions (length d.table)) (passes d.head.inserted (length d.units)) a.0 in
@@ -131,6 +131,30 @@ lawful d p =
     cond-false (passes d.head.instructions (length d.table) || passes d.head.inserted (length d.units)) _ _
     (or_from _ _ (not_passes d.head.instructions (length d.table) p.instructions p.few) (not_passes d.head.inserted (length d.units) p.inserted p.small)) ∙
     walked_back d.head 0 0 0 (instructions_of d) p.sound (omega arith) (omega arith)
+
+-- a delta with the same instructions passes the check with the same head
+pub passed_too : {U : Type 0} (d : Parts U) (is : List Instruction) (us : List U) → Passed d → take d.head.instructions is ≡ instructions_of d → d.head.instructions ≤ length is → d.head.inserted ≤ length us → Passed (parts d.head is us)
+passed_too d is us p same long full = record {
+  instructions = long;
+  few = p.few;
+  inserted = full;
+  small = p.small;
+  sound = subst (Sound d.head.source 0) (sym same) p.sound;
+  target = ap total same ∙ p.target;
+  count = ap inserted_in same ∙ p.count;
+}
+
+-- a lawful delta is lawful in tables of just its own entries
+own_passed : {U : Type 0} (d : Parts U) → Passed d → Passed (own d)
+own_passed d p =
+    let i = d.head.instructions in
+    let j = d.head.inserted in
+    passed_too d (instructions_of d) (units_of d) p (take-take i i d.table (omega arith))
+    (le_of_eq (sym (length-take-le i d.table p.instructions)))
+    (le_of_eq (sym (length-take-le j d.units p.inserted)))
+
+pub own_lawful : {U : Type 0} (d : Parts U) → Lawful d → Lawful (own d)
+own_lawful d l = lawful (own d) (own_passed d (passed d l))
 
 -- What sound instructions give.
 

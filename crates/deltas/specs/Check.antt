@@ -33,6 +33,10 @@ instructions_of d = take d.head.instructions d.table
 abbrev pub units_of : {U : Type 0} → Parts U → List U
 units_of d = take d.head.inserted d.units
 
+-- a delta in tables of just its own entries
+abbrev pub own : {U : Type 0} → Parts U → Parts U
+own d = parts d.head (instructions_of d) (units_of d)
+
 -- an instruction of n units at p, the one at index k, after so many inserted units: how many there are then, or its
 -- fault. A copy ends inside the source; an insert begins where the earlier ones ended
 abbrev pub placed : ℕ → ℕ → ℕ → Op → ℕ → ℕ → Result ℕ DeltaFault

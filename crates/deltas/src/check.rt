@@ -1,9 +1,11 @@
-ghost use Rattle.std.specs.Prelude.{◌≡◌};
-ghost use Rattle.deltas.specs.Check.{checked, parts_of, stepped};
+ghost use Rattle.std.specs.Prelude.{◌≡◌, Ok, Err, MatchResult};
+ghost use Rattle.deltas.specs.Check.{checked, own, parts_of, stepped};
+ghost use Rattle.deltas.specs.LawfulDeltas.{lawful_parts};
 
 use crate::delta::{Delta, Head};
 use crate::fault::DeltaFault;
 use crate::instruction::{Instruction, Op};
+use crate::lawful::LawfulDelta;
 
 // How many units are inserted after the instruction at an index, or what is wrong with it, where so many
 // were inserted before it.
@@ -38,7 +40,7 @@ pub fn after_instruction(
     }
 }
 
-impl<U> Delta<'_, '_, U> {
+impl<'i, 'u, U> Delta<'i, 'u, U> {
     // Whether the delta is lawful: its head, or its first fault.
     pub fn check(&self) -> Result<Head, DeltaFault>
         ensures { result ≡ checked (parts_of self.now) }
@@ -65,5 +67,17 @@ impl<U> Delta<'_, '_, U> {
             return Err(DeltaFault::InsertedCount(count));
         }
         Ok(head)
+    }
+
+    // The delta over its own entries alone, if it is lawful, or its first fault.
+    pub fn lawful(&self) -> Result<LawfulDelta<'i, 'u, U>, DeltaFault>
+        ensures { MatchResult result (λ d. (checked (parts_of self.now) ≡ Ok d.head) × (lawful_parts d ≡ own (parts_of self.now))) (λ f. checked (parts_of self.now) ≡ Err f) }
+    {
+        let head = self.check()?;
+        Ok(LawfulDelta {
+            head,
+            instructions: &self.instructions[0..head.instructions],
+            units: &self.units[0..head.inserted],
+        })
     }
 }

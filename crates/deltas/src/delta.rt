@@ -10,7 +10,8 @@ pub struct Head {
     pub inserted: usize,
 }
 
-// A delta over lent tables, which may be longer than its counts: the entries past them are no part of it.
+// A delta over lent tables, which may be longer than its counts: the entries past them are no part of it. The
+// counts stand beside the tables because tables are lent whole, at a fixed length, and a delta may be wrong.
 #[derive(Clone, Copy)]
 pub struct Delta<'i, 'u, U> {
     pub head: Head,

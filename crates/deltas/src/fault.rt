@@ -57,12 +57,11 @@ impl From<DeltaFault> for NormalFault {
     }
 }
 
-impl DeltaFault {
-    // The fault as users know it.
-    pub fn refusal(self) -> Refusal
-        ensures { result ≡ delta_refusal self }
-    {
-        let (number, place) = match self {
+impl From<DeltaFault> for Refusal {
+    ghost from_gives = { λ f r. r ≡ delta_refusal f };
+
+    fn from(fault: DeltaFault) -> Refusal {
+        let (number, place) = match fault {
             DeltaFault::Counts => (9, 0),
             DeltaFault::EmptyInstruction(index) => (6, index),
             DeltaFault::CopyPastSource(index) => (7, index),
@@ -78,24 +77,38 @@ impl DeltaFault {
     }
 }
 
+impl From<PairFault> for Refusal {
+    ghost from_gives = { λ f r. r ≡ pair_refusal f };
+
+    fn from(fault: PairFault) -> Refusal {
+        let (number, place) = match fault {
+            PairFault::Unsound(_, fault) => return fault.into(),
+            PairFault::Lengths(source) => (11, source),
+            PairFault::Short(need) => (31, need),
+        };
+        Refusal {
+            number,
+            layer: Layer::Pair,
+            place: place as usize,
+        }
+    }
+}
+
+impl DeltaFault {
+    // The fault as users know it.
+    pub fn refusal(self) -> Refusal
+        ensures { result ≡ delta_refusal self }
+    {
+        self.into()
+    }
+}
+
 impl PairFault {
     // The fault as users know it.
     pub fn refusal(self) -> Refusal
         ensures { result ≡ pair_refusal self }
     {
-        match self {
-            PairFault::Unsound(_, fault) => fault.refusal(),
-            PairFault::Lengths(source) => Refusal {
-                number: 11,
-                layer: Layer::Pair,
-                place: source as usize,
-            },
-            PairFault::Short(need) => Refusal {
-                number: 31,
-                layer: Layer::Pair,
-                place: need as usize,
-            },
-        }
+        self.into()
     }
 
     // Which of the two deltas is at fault, where it is one of them.

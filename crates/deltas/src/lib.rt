@@ -6,6 +6,7 @@ mod check;
 mod delta;
 mod fault;
 mod instruction;
+mod lawful;
 mod laws;
 mod table;
 
@@ -13,5 +14,6 @@ pub use check::after_instruction;
 pub use delta::{Delta, Head};
 pub use fault::{DeltaFault, NormalFault, PairFault, Side};
 pub use instruction::{Instruction, Op};
+pub use lawful::LawfulDelta;
 pub use laws::the_check_finds_the_first_fault;
 pub use table::blank_rest;

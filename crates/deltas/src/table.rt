@@ -5,7 +5,8 @@ ghost use Rattle.std.specs.Prelude.{◌≡◌, ◌-◌, ◌++◌, length, take, 
 pub fn blank_rest<T: Copy>(table: &mut [T], count: usize, blank: T)
     ensures { table.new ≡ take count table.old ++ replicate (length table.old - count) blank }
 {
-    for i in count..table.len() {
-        table[i] = blank;
+    let start = count.min(table.len());
+    for entry in &mut table[start..] {
+        *entry = blank;
     }
 }

@@ -1,8 +1,10 @@
 // Faults of frames.
 ghost use Rattle.std.specs.Prelude.{◌≡◌};
 ghost use Rattle.faults.specs.declared.frame.ParseFault.TheVariants.{Frame, Delta};
-ghost use Rattle.faults.specs.declared.frame.ReadFault.TheVariants.{Unread, Short};
+ghost use Rattle.faults.specs.declared.frame.ReadFault.TheVariants.{Unread};
 ghost use Rattle.faults.specs.declared.frame.WriteFault.TheVariants.{Unlawful};
+ghost use Rattle.units.specs.declared.refusal.Layer.TheVariants as layer;
+ghost use Rattle.deltas.specs.Refusals.{refused};
 ghost use Rattle.faults.specs.Refusals.{frame_refusal, parse_refusal, read_refusal, write_refusal};
 
 use deltas::DeltaFault;
@@ -33,7 +35,8 @@ pub enum ParseFault {
     Delta(DeltaFault),
 }
 
-// Why a frame is not read into tables.
+// Why a frame is not read into tables. This and `WriteFault` stay two enums of their own: as one enum over the
+// fault inside, its refusal would be promised by a relation, where each of them equates it.
 #[derive(Clone, Copy, PartialEq, Eq, Debug)]
 pub enum ReadFault {
     // it is not the frame of a lawful delta
@@ -83,12 +86,11 @@ impl From<DeltaFault> for WriteFault {
     }
 }
 
-impl FrameFault {
-    // The fault as users know it.
-    pub fn refusal(self) -> Refusal
-        ensures { result ≡ frame_refusal self }
-    {
-        let (number, place) = match self {
+impl From<FrameFault> for Refusal {
+    ghost from_gives = { λ f r. r ≡ frame_refusal f };
+
+    fn from(fault: FrameFault) -> Refusal {
+        let (number, place) = match fault {
             FrameFault::CutShort(place) => (1, place),
             FrameFault::Version => (2, 0),
             FrameFault::SpareBytes(place) => (3, place),
@@ -103,21 +105,20 @@ impl FrameFault {
     }
 }
 
-impl ParseFault {
-    // The fault as users know it.
-    pub fn refusal(self) -> Refusal
-        ensures { result ≡ parse_refusal self }
-    {
-        match self {
-            ParseFault::Frame(fault) => fault.refusal(),
-            ParseFault::Delta(fault) => fault.refusal(),
+impl From<ParseFault> for Refusal {
+    ghost from_gives = { λ f r. r ≡ parse_refusal f };
+
+    fn from(fault: ParseFault) -> Refusal {
+        match fault {
+            ParseFault::Frame(fault) => fault.into(),
+            ParseFault::Delta(fault) => fault.into(),
         }
     }
 }
 
 // What is refused where a table or an output has fewer entries than the need.
 fn too_short(need: usize) -> Refusal
-    ensures { result ≡ read_refusal (Short need) }
+    ensures { result ≡ refused 31 layer.Frame need }
 {
     Refusal {
         number: 31,
@@ -126,15 +127,52 @@ fn too_short(need: usize) -> Refusal
     }
 }
 
+impl From<ReadFault> for Refusal {
+    ghost from_gives = { λ f r. r ≡ read_refusal f };
+
+    fn from(fault: ReadFault) -> Refusal {
+        match fault {
+            ReadFault::Unread(fault) => fault.into(),
+            ReadFault::Short(need) => too_short(need),
+        }
+    }
+}
+
+impl From<WriteFault> for Refusal {
+    ghost from_gives = { λ f r. r ≡ write_refusal f };
+
+    fn from(fault: WriteFault) -> Refusal {
+        match fault {
+            WriteFault::Unlawful(fault) => fault.into(),
+            WriteFault::Short(need) => too_short(need),
+        }
+    }
+}
+
+impl FrameFault {
+    // The fault as users know it.
+    pub fn refusal(self) -> Refusal
+        ensures { result ≡ frame_refusal self }
+    {
+        self.into()
+    }
+}
+
+impl ParseFault {
+    // The fault as users know it.
+    pub fn refusal(self) -> Refusal
+        ensures { result ≡ parse_refusal self }
+    {
+        self.into()
+    }
+}
+
 impl ReadFault {
     // The fault as users know it.
     pub fn refusal(self) -> Refusal
         ensures { result ≡ read_refusal self }
     {
-        match self {
-            ReadFault::Unread(fault) => fault.refusal(),
-            ReadFault::Short(need) => too_short(need),
-        }
+        self.into()
     }
 }
 
@@ -143,9 +181,6 @@ impl WriteFault {
     pub fn refusal(self) -> Refusal
         ensures { result ≡ write_refusal self }
     {
-        match self {
-            WriteFault::Unlawful(fault) => fault.refusal(),
-            WriteFault::Short(need) => too_short(need),
-        }
+        self.into()
     }
 }

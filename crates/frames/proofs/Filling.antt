@@ -4,7 +4,7 @@ use native.Mathlib.Nat.{sub-zero}
 use borrow.Rule.Slice.PartMut.{put_mid}
 use Rattle.std.proofs.lemmas.List.Edits.{sets, sets-eq}
 use Rattle.std.proofs.lemmas.List.{take_rest, at_drop_more, at_drop_all, length-append, length-set, length-take, length-drop, drop-drop, append-nil, append_assoc, drop_all}
-use Rattle.units.specs.declared.wire.WireUnit.{Ghosts}
+use Rattle.units.specs.Code.{Code}
 use Rattle.std.specs.List.{flat_map}
 use Rattle.deltas.specs.declared.instruction.Instruction.{Instruction}
 use Rattle.frames.specs.Instructions.{Wire, copy, insert, inserts_of, Fitting}
@@ -26,14 +26,14 @@ pub rest_again : (n i w : ℕ) (bs : List ℕ) → i < n → length bs ≡ (n - 
 rest_again n i w bs l e = ap length (take_rest bs w) ∙ length-drop w bs ∙ omega (arith, less n i w l)
 
 -- the units that are left give what the table holds in the end
-pub units_again : {U : Type 0} (c : Ghosts U) (n i w : ℕ) (out : List U) (bs : List ℕ) (u : U) (a : List U) → i < n → w ≡ c.width → u ≡ c.parsed (take (w - 0) bs) → sets out i (units_in c (n - i) bs) ≡ a → sets (set out i u) (i + 1) (units_in c (n - (i + 1)) (take (length bs - w) (drop w bs))) ≡ a
-units_again c n i w out bs u a l e p h =
+pub units_again : {U : Type 0} {kind width : ℕ} (c : Code U kind width) (n i w : ℕ) (out : List U) (bs : List ℕ) (u : U) (a : List U) → i < n → w ≡ width → u ≡ c.parsed (take (w - 0) bs) → sets out i (units_in c (n - i) bs) ≡ a → sets (set out i u) (i + 1) (units_in c (n - (i + 1)) (take (length bs - w) (drop w bs))) ≡ a
+units_again {width = width} c n i w out bs u a l e p h =
     let s : n - i ≡ suc (n - (i + 1)) = omega arith in
     let j : i + 1 ≡ suc i = omega arith in
     ap (λ k. sets (set out i u) k (units_in c (n - (i + 1)) (take (length bs - w) (drop w bs)))) j
     ∙ ap (λ b. sets (set out i u) (suc i) (units_in c (n - (i + 1)) b)) (take_rest bs w)
     ∙ ap (λ k. sets (set out i u) (suc i) (units_in c (n - (i + 1)) (drop k bs))) e
-    ∙ ap (λ v. sets (set out i v) (suc i) (units_in c (n - (i + 1)) (drop c.width bs))) (p ∙ ap (λ k. c.parsed (take k bs)) (sub-zero w ∙ e))
+    ∙ ap (λ v. sets (set out i v) (suc i) (units_in c (n - (i + 1)) (drop width bs))) (p ∙ ap (λ k. c.parsed (take k bs)) (sub-zero w ∙ e))
     ∙ ap (λ k. sets out i (units_in c k bs)) (sym s)
     ∙ h
 
@@ -53,7 +53,7 @@ put_sets a k xs ys zs e f l =
     ∙ sym (sets-eq zs xs a l)
 
 -- the units of an insert
-pub store_insert : {U : Type 0} (c : Ghosts U) (a n : ℕ) (bs : List ℕ) (us vs : List U) → a + n ≤ length us → vs ≡ units_in c (length (take (a + n - a) (drop a us))) bs → put_mid a (a + n - a) us vs ≡ sets us a (units_in c n bs)
+pub store_insert : {U : Type 0} {kind width : ℕ} (c : Code U kind width) (a n : ℕ) (bs : List ℕ) (us vs : List U) → a + n ≤ length us → vs ≡ units_in c (length (take (a + n - a) (drop a us))) bs → put_mid a (a + n - a) us vs ≡ sets us a (units_in c n bs)
 store_insert c a n bs us vs l e =
     let k : a + n - a ≡ n = omega arith in
     let m : length (take (a + n - a) (drop a us)) ≡ n = omega (arith, length-take (a + n - a) (drop a us), length-drop a us) in
@@ -80,7 +80,7 @@ entries_again t i k b e x ws xs a en f g h =
     ∙ ap (λ ys. sets t i (entries k ys)) (sym g)
     ∙ h
 
-pub stored_again : {U : Type 0} (c : Ghosts U) (us vs : List U) (k : ℕ) (x : Wire) (ws xs : List Wire) (a : List U) → vs ≡ sets us k (units_of_wire c x) → ws ≡ x ∷ xs → sets us k (flat_map (units_of_wire c) ws) ≡ a → sets vs (k + inserts_of x) (flat_map (units_of_wire c) xs) ≡ a
+pub stored_again : {U : Type 0} {kind width : ℕ} (c : Code U kind width) (us vs : List U) (k : ℕ) (x : Wire) (ws xs : List Wire) (a : List U) → vs ≡ sets us k (units_of_wire c x) → ws ≡ x ∷ xs → sets us k (flat_map (units_of_wire c) ws) ≡ a → sets vs (k + inserts_of x) (flat_map (units_of_wire c) xs) ≡ a
 stored_again c us vs k x ws xs a e g h =
     ap (λ u. sets u (k + inserts_of x) (flat_map (units_of_wire c) xs)) e
     ∙ ap (λ n. sets (sets us k (units_of_wire c x)) (k + n) (flat_map (units_of_wire c) xs)) (sym (length_units_of_wire c x))

@@ -5,9 +5,9 @@ use Rattle.std.proofs.ByRecursion.{All-drop, All-push, All-from_get_or}
 use Rattle.std.proofs.lemmas.List.{length-drop, length_push, drop-drop, get_or-drop, take_at, flat_map_more}
 use Rattle.std.proofs.lemmas.Bool.Decides.{nat_tests}
 use Rattle.units.specs.BigEndian.{number_at}
-use Rattle.units.specs.declared.wire.WireUnit.{Ghosts}
+use Rattle.units.specs.Code.{Code, CodeLaws}
 use Rattle.deltas.specs.declared.fault.DeltaFault.{DeltaFault}
-use Rattle.deltas.specs.Check.{Parts, checked}
+use Rattle.deltas.specs.Check.{Parts, checked, own}
 use Rattle.frames.specs.declared.opening.Opening.{Opening}
 use Rattle.faults.specs.declared.frame.FrameFault.{FrameFault}
 use Rattle.faults.specs.declared.frame.FrameFault.TheVariants.{CutShort, Version, SpareBytes, OtherKind, UnknownTag}
@@ -15,9 +15,8 @@ use Rattle.faults.specs.declared.frame.ParseFault.{ParseFault}
 use Rattle.faults.specs.declared.frame.ParseFault.TheVariants.{Frame, Delta}
 use Rattle.frames.specs.Instructions.{Wire, extent, wire_bytes, Fitting}
 use Rattle.frames.specs.Reading.{then, with_fault, said, opened, first, wires, delta_in, unpacked, if_lawful, parsed_frame}
-use Rattle.frames.specs.Writing.{encoded, own}
+use Rattle.frames.specs.Writing.{encoded}
 use Rattle.frames.specs.Meaning.{Bytes, Opened, Due, CutOff, Wrong, LengthsFit, FramesMean}
-use Rattle.frames.proofs.Codes.{Codes}
 use Rattle.frames.proofs.Steps.{then_err, then_last, with_fault_err}
 use Rattle.frames.proofs.Wires.{length_wire_bytes, number_fits, first_fits, first_again}
 use Rattle.frames.proofs.Openings.{opened_facts}
@@ -141,21 +140,21 @@ delta_refused (Err g) e h = let z : ◌≡◌ {A = ℕ} 0 1 = cc in absurd (omeg
 
 -- The whole frame.
 
-module _ {U : Type 0} (c : Ghosts U) where
-  unpacked_wrong : (f : List ℕ) (e : FrameFault) → AllBelowBase 256 f → unpacked c f ≡ Err e → Wrong c.kind c.width f e
+module _ {U : Type 0} {kind width : ℕ} (c : Code U kind width) where
+  unpacked_wrong : (f : List ℕ) (e : FrameFault) → AllBelowBase 256 f → unpacked c f ≡ Err e → Wrong kind width f e
   unpacked_wrong f e u h =
-      let go : Opening → Result (Parts U) FrameFault = λ o. then (wires c.width o.instructions 12 (drop 12 f)) (λ xs. Ok (delta_in c o xs)) in
+      let go : Opening → Result (Parts U) FrameFault = λ o. then (wires width o.instructions 12 (drop 12 f)) (λ xs. Ok (delta_in c o xs)) in
       ⊎_elim
-      (λ g. opened_wrong c.kind c.width f e g)
+      (λ g. opened_wrong kind width f e g)
       (λ z.
-      let o = opened_facts c.kind f z.0 z.1 in
-      let rest = then_last (wires c.width z.0.instructions 12 (drop 12 f)) (delta_in c z.0) e z.2 in
+      let o = opened_facts kind f z.0 z.1 in
+      let rest = then_last (wires width z.0.instructions 12 (drop 12 f)) (delta_in c z.0) e z.2 in
       let count = ap (λ (p : Opening). p.instructions) o.1 in
-      wires_wrong c.kind c.width (number_at 10 2 f) 0 12 f e u o.0 (omega arith) (due_none c.width f o.0.long)
-      (ap (λ n. wires c.width n 12 (drop 12 f)) (sym count) ∙ rest))
-      (then_err (opened c.kind f) go e h)
+      wires_wrong kind width (number_at 10 2 f) 0 12 f e u o.0 (omega arith) (due_none width f o.0.long)
+      (ap (λ n. wires width n 12 (drop 12 f)) (sym count) ∙ rest))
+      (then_err (opened kind f) go e h)
 
-module _ {U : Type 0} (c : Ghosts U) (k : Codes c) where
+module _ {U : Type 0} {kind width : ℕ} (c : Code U kind width) (k : CodeLaws c) where
   delta_wrong : (f : List ℕ) (e : DeltaFault) → Bytes f → parsed_frame c f ≡ Err (Delta e) → (d : Parts U) × (own d ≡ d) × (encoded c d ≡ f) × (checked d ≡ Err e)
   delta_wrong f e b h =
       let r = delta_refused (unpacked c f) e h in

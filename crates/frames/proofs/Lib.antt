@@ -1,4 +1,3 @@
-pub mod Codes
 pub mod Steps
 pub mod Numbers
 pub mod Wires

@@ -1,16 +1,14 @@
 -- What is sent is what is received.
 use Rattle.std.proofs.Common.{◌≡◌, ℕ, ◌≤◌, List, ◌++◌, length, take, sym, refl, ap, ◌∙◌, subst, arith}
 use Rattle.std.proofs.lemmas.List.{length-append, length-take-le, take_at}
-use Rattle.units.specs.declared.wire.WireUnit.{Ghosts}
+use Rattle.units.specs.Code.{Code, CodeLaws}
 use Rattle.deltas.specs.declared.instruction.Instruction.{Instruction}
-use Rattle.deltas.specs.Check.{Parts, parts, instructions_of, units_of}
+use Rattle.deltas.specs.Check.{Parts, parts, instructions_of, units_of, own}
 use Rattle.deltas.specs.Origins.{origins, applied}
-use Rattle.deltas.proofs.Sound.{passed, lawful}
+use Rattle.deltas.proofs.Sound.{passed, lawful, passed_too}
 use Rattle.combining.specs.Normal.{Longest, Normal}
-use Rattle.frames.specs.Writing.{own}
 use Rattle.frames.specs.Distribution.{Same, Distribution}
-use Rattle.frames.proofs.Codes.{Codes}
-use Rattle.frames.proofs.RoundTrips.{passed_too, delta_again}
+use Rattle.frames.proofs.RoundTrips.{delta_again}
 
 -- the front of a list is its front again, whatever stands behind it, and no shorter
 front : {A : Type 0} (n : ℕ) (xs rest : List A) → n ≤ length xs → (take n (take n xs ++ rest) ≡ take n xs) × (n ≤ length (take n xs ++ rest))
@@ -33,5 +31,5 @@ same_behind {U} d n rest others =
       applies = λ x source. ap (λ is. applied x source (origins (units_of e) is)) i.0 ∙ ap (λ us. applied x source (origins us (instructions_of d))) u.0;
     }
 
-pub distribution : {U : Type 0} (c : Ghosts U) → Codes c → Distribution c
+pub distribution : {U : Type 0} {kind width : ℕ} (c : Code U kind width) → CodeLaws c → Distribution c
 distribution c k d n fit = record { read = own d; is_read = delta_again c k d n.0 fit.0 fit.1; same = same_behind d n }

@@ -2,7 +2,7 @@
 use Rattle.std.proofs.Common.{◌≡◌, ℕ, ◌<◌, ◌≤◌, List, length, drop, Ok, Err, Result, sym, refl, ap, ◌∙◌, arith}
 use Rattle.std.proofs.lemmas.List.{take_all}
 use Rattle.std.proofs.lemmas.Bool.Decides.{nat_tests}
-use Rattle.units.specs.declared.wire.WireUnit.{Ghosts}
+use Rattle.units.specs.Code.{Code}
 use Rattle.deltas.specs.declared.delta.Head.{Head}
 use Rattle.deltas.specs.declared.fault.DeltaFault.{DeltaFault}
 use Rattle.deltas.specs.declared.fault.DeltaFault.TheVariants.{Counts}
@@ -19,7 +19,7 @@ use Rattle.frames.specs.Steps.{found, wires_in}
 use Rattle.frames.proofs.Tables.{length_entries, length_inserted}
 use Rattle.frames.proofs.Wires.{wires_fit}
 
-module _ {U : Type 0} (c : Ghosts U) where
+module _ {U : Type 0} {kind width : ℕ} (c : Code U kind width) where
   -- where its instructions insert no more than 65,535 units, its check is the walk; where more, its counts are at fault
   pub checked_in : (o : Opening) (xs : List Wire) → length xs ≤ 65535 → inserts_in xs ≤ 65535 → checked (delta_in c o xs) ≡ walked (head o.source o.target (length xs) (inserts_in xs)) 0 0 0 (entries 0 xs)
   checked_in o xs l m =
@@ -49,14 +49,14 @@ pub found_is : (q : Result (List Wire) FrameFault) (n : ℕ) → Ok n ≡ then q
 found_is (Ok xs) n e = (refl, cc)
 found_is (Err f) n e = let z : ◌≡◌ {A = ℕ} 0 1 = cc in absurd (omega arith)
 
-module _ {U : Type 0} (c : Ghosts U) where
-  pub answer_found : (f : List ℕ) (o : Opening) (xs : List Wire) → opened c.kind f ≡ Ok o → wires c.width o.instructions 12 (drop 12 f) ≡ Ok xs → check_answer c f ≡ with_fault Delta (checked (delta_in c o xs))
+module _ {U : Type 0} {kind width : ℕ} (c : Code U kind width) where
+  pub answer_found : (f : List ℕ) (o : Opening) (xs : List Wire) → opened kind f ≡ Ok o → wires width o.instructions 12 (drop 12 f) ≡ Ok xs → check_answer c f ≡ with_fault Delta (checked (delta_in c o xs))
   answer_found f o xs p q =
       let u : unpacked c f ≡ Ok (delta_in c o xs) = rw (p, q) refl in
       ap (λ r. then (then (with_fault Frame r) if_lawful) (λ d. Ok d.head)) u ∙ head_lawful (delta_in c o xs)
 
   -- as the program has it
-  pub answer_walks : (f : List ℕ) (o : Opening) (k w n : ℕ) → k ≡ c.kind → w ≡ c.width → Ok o ≡ opened k f → Ok n ≡ then (wires w o.instructions 12 (drop 12 f)) (λ xs. Ok (inserts_in xs)) → o.instructions ≤ 65535 → n ≤ 65535 → with_fault Delta (walked (head o.source o.target o.instructions n) 0 0 0 (entries 0 (wires_in w o.instructions f))) ≡ check_answer c f
+  pub answer_walks : (f : List ℕ) (o : Opening) (k w n : ℕ) → k ≡ kind → w ≡ width → Ok o ≡ opened k f → Ok n ≡ then (wires w o.instructions 12 (drop 12 f)) (λ xs. Ok (inserts_in xs)) → o.instructions ≤ 65535 → n ≤ 65535 → with_fault Delta (walked (head o.source o.target o.instructions n) 0 0 0 (entries 0 (wires_in w o.instructions f))) ≡ check_answer c f
   answer_walks f o k w n ke we p q l m =
       let xs = wires_in w o.instructions f in
       let r = found_is (wires w o.instructions 12 (drop 12 f)) n q in
@@ -67,7 +67,7 @@ module _ {U : Type 0} (c : Ghosts U) where
       ∙ ap (with_fault Delta) (sym (checked_in c o xs (omega arith) (omega arith)))
       ∙ sym a
 
-  pub answer_over : (f : List ℕ) (o : Opening) (k w n : ℕ) → k ≡ c.kind → w ≡ c.width → Ok o ≡ opened k f → Ok n ≡ then (wires w o.instructions 12 (drop 12 f)) (λ xs. Ok (inserts_in xs)) → 65535 < n → Err (Delta Counts) ≡ check_answer c f
+  pub answer_over : (f : List ℕ) (o : Opening) (k w n : ℕ) → k ≡ kind → w ≡ width → Ok o ≡ opened k f → Ok n ≡ then (wires w o.instructions 12 (drop 12 f)) (λ xs. Ok (inserts_in xs)) → 65535 < n → Err (Delta Counts) ≡ check_answer c f
   answer_over f o k w n ke we p q m =
       let xs = wires_in w o.instructions f in
       let r = found_is (wires w o.instructions 12 (drop 12 f)) n q in

@@ -1,6 +1,6 @@
 use Rattle.std.specs.Prelude.{◌≡◌, ℕ, List, [], ◌∷◌, ◌++◌, Ok}
-use Rattle.units.specs.declared.wire.WireUnit.{Ghosts}
-use Rattle.units.specs.contracts.byte.U8WireUnit.TheImpl.{ghosts}
+use Rattle.units.specs.Code.{Code}
+use Rattle.units.specs.Bytes.{byte_code}
 use Rattle.deltas.specs.declared.instruction.Instruction.{Instruction}
 use Rattle.deltas.specs.declared.instruction.Op.TheVariants.{Insert}
 use Rattle.deltas.specs.Instructions.{instruction}
@@ -23,13 +23,13 @@ pub record Same {U : Type 0} (d e : Parts U) : Type 0 where
   pub applies : (x : U) (source : List U) → applied x source (origins_of e) ≡ applied x source (origins_of d)
 
 -- what a sender writes from a normal delta, a receiver reads as that delta, whatever stands behind it in the tables
-pub record Arrives {U : Type 0} (c : Ghosts U) (d : Parts U) : Type 0 where
+pub record Arrives {U : Type 0} {kind width : ℕ} (c : Code U kind width) (d : Parts U) : Type 0 where
   pub read : Parts U
   pub is_read : parsed_frame c (encoded c d) ≡ Ok read
   pub same : (rest : List Instruction) (others : List U) → Same d (parts read.head (read.table ++ rest) (read.units ++ others))
 
 -- every normal delta arrives
-abbrev pub Distribution : {U : Type 0} → Ghosts U → Type 0
+abbrev pub Distribution : {U : Type 0} {kind width : ℕ} → Code U kind width → Type 0
 Distribution {U} c = (d : Parts U) → Normal d → LengthsFit d → Arrives c d
 
 -- A frame worked by hand: "abcde" inserted over an empty source.
@@ -44,4 +44,4 @@ inserts_abcde = parts (head 0 5 1 5) (instruction Insert 0 5 ∷ []) (97 ∷ 98 
 
 -- each is made from the other
 abbrev pub Worked : Type 0
-Worked = (parsed_frame ghosts abcde ≡ Ok inserts_abcde) × (encoded ghosts inserts_abcde ≡ abcde)
+Worked = (parsed_frame byte_code abcde ≡ Ok inserts_abcde) × (encoded byte_code inserts_abcde ≡ abcde)

@@ -1,15 +1,15 @@
 use Rattle.std.specs.Prelude.{◌≡◌, ℕ, ◌+◌, ◌-◌, ◌*◌, ◌<◌, ◌≤◌, ◌⊎◌, List, length, take, drop, Ok, Err, ◌≢◌, slice_index, slice_index_or}
 use Rattle.std.specs.List.{flat_map, AllByRecursion}
 use Rattle.units.specs.BigEndian.{number_at}
-use Rattle.units.specs.declared.wire.WireUnit.{Ghosts}
+use Rattle.units.specs.Code.{Code}
 use Rattle.deltas.specs.declared.fault.DeltaFault.{DeltaFault}
-use Rattle.deltas.specs.Check.{Parts, checked, Lawful}
+use Rattle.deltas.specs.Check.{Parts, checked, Lawful, own}
 use Rattle.faults.specs.declared.frame.FrameFault.{FrameFault}
 use Rattle.faults.specs.declared.frame.FrameFault.TheVariants.{CutShort, Version, SpareBytes, OtherKind, UnknownTag}
 use Rattle.faults.specs.declared.frame.ParseFault.TheVariants.{Frame, Delta}
 use Rattle.frames.specs.Instructions.{Wire, wire_bytes, Fitting}
 use Rattle.frames.specs.Reading.{said, parsed_frame}
-use Rattle.frames.specs.Writing.{encoded, own}
+use Rattle.frames.specs.Writing.{encoded}
 
 -- What the check of a frame finds, in words about the bytes at their places.
 
@@ -67,8 +67,8 @@ LengthsFit d = (d.head.source ≤ 65535) × (d.head.target ≤ 65535)
 
 -- bytes are accepted exactly if they are the frame of a lawful delta, which is what is read; a fault of the frame is the
 -- first thing that is wrong, and a fault of the delta is that of the delta whose frame it is
-pub record FramesMean {U : Type 0} (c : Ghosts U) : Type 0 where
+pub record FramesMean {U : Type 0} {kind width : ℕ} (c : Code U kind width) : Type 0 where
   pub accepted : (f : List ℕ) (d : Parts U) → Bytes f → parsed_frame c f ≡ Ok d → Lawful d × LengthsFit d × (own d ≡ d) × (encoded c d ≡ f)
   pub read_back : (d : Parts U) → Lawful d → LengthsFit d → parsed_frame c (encoded c d) ≡ Ok (own d)
-  pub frame_wrong : (f : List ℕ) (e : FrameFault) → Bytes f → parsed_frame c f ≡ Err (Frame e) → Wrong c.kind c.width f e
+  pub frame_wrong : (f : List ℕ) (e : FrameFault) → Bytes f → parsed_frame c f ≡ Err (Frame e) → Wrong kind width f e
   pub delta_wrong : (f : List ℕ) (e : DeltaFault) → Bytes f → parsed_frame c f ≡ Err (Delta e) → (d : Parts U) × (own d ≡ d) × (encoded c d ≡ f) × (checked d ≡ Err e)

@@ -1,7 +1,7 @@
 use Rattle.std.specs.Prelude.{ℕ, zero, suc, ◌+◌, ◌*◌, cond, List, [], ◌∷◌, length, take, drop, Ok, Err, Result, ◌==◌, nat_lt, slice_index}
 use Rattle.std.specs.List.{flat_map}
 use Rattle.units.specs.BigEndian.{number_at}
-use Rattle.units.specs.declared.wire.WireUnit.{Ghosts}
+use Rattle.units.specs.Code.{Code}
 use Rattle.deltas.specs.declared.instruction.Instruction.{Instruction}
 use Rattle.deltas.specs.declared.instruction.Op.TheVariants.{Copy, Insert}
 use Rattle.deltas.specs.Instructions.{instruction}
@@ -13,12 +13,7 @@ use Rattle.faults.specs.declared.frame.ParseFault.{ParseFault}
 use Rattle.faults.specs.declared.frame.ParseFault.TheVariants.{Frame, Delta}
 use Rattle.frames.specs.Instructions.{Wire, copy, insert, extent, inserts_of}
 
--- How bytes are read as the frame of a delta. A kind of unit is c: its number, its width, and how its units are written
--- and read.
-
--- a kind of unit by its number, its width, and how its units are written and read
-abbrev pub code : {U : Type 0} → ℕ → ℕ → (U → List ℕ) → (List ℕ → U) → Ghosts U
-code k w written parsed = record { kind = k; width = w; written = written; parsed = parsed }
+-- How bytes are read as the frame of a delta. The code of a kind of unit is c: how its units are written and read.
 
 -- what goes on from an answer; a fault ends it
 abbrev pub then : {X Y E : Type 0} → Result X E → (X → Result Y E) → Result Y E
@@ -74,12 +69,12 @@ wires w zero p bs = cond (length bs == 0) (Ok []) (Err (SpareBytes p))
 wires w (suc n) p bs = then (first w p bs) (λ x. then (wires w n (p + extent x) (drop (extent x) bs)) (λ xs. Ok (x ∷ xs)))
 
 -- the units that n × width bytes stand for
-abbrev pub units_in : {U : Type 0} → Ghosts U → ℕ → List ℕ → List U
+abbrev pub units_in : {U : Type 0} {kind width : ℕ} → Code U kind width → ℕ → List ℕ → List U
 units_in c zero bs = []
-units_in c (suc n) bs = c.parsed (take c.width bs) ∷ units_in c n (drop c.width bs)
+units_in {width = width} c (suc n) bs = c.parsed (take width bs) ∷ units_in c n (drop width bs)
 
 -- the units that an instruction inserts
-abbrev pub units_of_wire : {U : Type 0} → Ghosts U → Wire → List U
+abbrev pub units_of_wire : {U : Type 0} {kind width : ℕ} → Code U kind width → Wire → List U
 units_of_wire c (copy p n) = []
 units_of_wire c (insert n bs) = units_in c n bs
 
@@ -99,20 +94,20 @@ inserts_in [] = 0
 inserts_in (x ∷ xs) = inserts_of x + inserts_in xs
 
 -- the delta that a frame holds, in tables of just its own entries
-abbrev pub delta_in : {U : Type 0} → Ghosts U → Opening → List Wire → Parts U
+abbrev pub delta_in : {U : Type 0} {kind width : ℕ} → Code U kind width → Opening → List Wire → Parts U
 delta_in c o xs =
     parts (head o.source o.target (length xs) (inserts_in xs)) (entries 0 xs) (flat_map (units_of_wire c) xs)
 
 -- the delta in a frame, lawful or not, or the first fault of the frame
-abbrev pub unpacked : {U : Type 0} → Ghosts U → List ℕ → Result (Parts U) FrameFault
-unpacked c f =
-    then (opened c.kind f)
-    (λ o. then (wires c.width o.instructions 12 (drop 12 f)) (λ xs. Ok (delta_in c o xs)))
+abbrev pub unpacked : {U : Type 0} {kind width : ℕ} → Code U kind width → List ℕ → Result (Parts U) FrameFault
+unpacked {kind = kind} {width = width} c f =
+    then (opened kind f)
+    (λ o. then (wires width o.instructions 12 (drop 12 f)) (λ xs. Ok (delta_in c o xs)))
 
 -- a delta once it passes its check, which compares its counts with 65,535 alone, since its tables are just its own
 abbrev pub if_lawful : {U : Type 0} → Parts U → Result (Parts U) ParseFault
 if_lawful d = then (with_fault Delta (checked d)) (λ _. Ok d)
 
 -- the lawful delta in a frame, or the frame's or the delta's first fault
-abbrev pub parsed_frame : {U : Type 0} → Ghosts U → List ℕ → Result (Parts U) ParseFault
+abbrev pub parsed_frame : {U : Type 0} {kind width : ℕ} → Code U kind width → List ℕ → Result (Parts U) ParseFault
 parsed_frame c f = then (with_fault Frame (unpacked c f)) if_lawful

@@ -2,7 +2,7 @@
 ghost use Rattle.std.specs.Prelude.{◌≡◌, ◌<◌, ◌≤◌, length, drop, Ok};
 ghost use Rattle.deltas.specs.Check.{head, walked};
 ghost use Rattle.faults.specs.declared.frame.ParseFault.TheVariants as parse;
-ghost use Rattle.frames.specs.Reading.{code, then, with_fault, wires, entries, inserts_in};
+ghost use Rattle.frames.specs.Reading.{then, with_fault, wires, entries, inserts_in};
 ghost use Rattle.frames.specs.Outcomes.{check_answer};
 ghost use Rattle.frames.specs.Steps.{wires_in, Frames};
 
@@ -74,10 +74,10 @@ fn check_instructions(
 
 // Whether bytes are the frame of a lawful delta: its head, or the first fault.
 pub fn check_frame<U: WireUnit>(frame: &[u8]) -> Result<Head, ParseFault>
-    ensures { result ≡ check_answer (code U.kind U.width U.written U.parsed) frame.now }
+    ensures { result ≡ check_answer U.code frame.now }
 {
-    let width = U::byte_width();
-    let opening = open_frame(frame, U::kind_number())?;
+    let width = U::WIDTH;
+    let opening = open_frame(frame, U::KIND)?;
     let inserted = count_inserted(frame, opening.instructions, width)?;
     if inserted > 65535 {
         return Err(ParseFault::Delta(DeltaFault::Counts));

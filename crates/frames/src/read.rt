@@ -6,7 +6,7 @@ ghost use Rattle.deltas.specs.Check.{parts};
 ghost use Rattle.deltas.specs.Instructions.{blank_instruction};
 ghost use Rattle.combining.specs.Outcomes.{left_in};
 ghost use Rattle.frames.specs.Instructions.{shown, inserts_of};
-ghost use Rattle.frames.specs.Reading.{code, units_in, units_of_wire, entries, inserts_in, parsed_frame};
+ghost use Rattle.frames.specs.Reading.{units_in, units_of_wire, entries, inserts_in, parsed_frame};
 ghost use Rattle.frames.specs.Writing.{encoded};
 ghost use Rattle.frames.specs.Outcomes.{read_answer, held};
 ghost use Rattle.frames.specs.Steps.{wires_in, Frames, Sized};
@@ -19,10 +19,10 @@ use units::WireUnit;
 
 // Reads as many units as `out` has entries.
 fn read_units<U: WireUnit>(bytes: &[u8], out: &mut [U])
-    requires { length bytes.now ≡ length out.old * U.width }
-    ensures { out.new ≡ units_in (code U.kind U.width U.written U.parsed) (length out.old) bytes.now }
+    requires { length bytes.now ≡ length out.old * U.WIDTH }
+    ensures { out.new ≡ units_in U.code (length out.old) bytes.now }
 {
-    let width = U::byte_width();
+    let width = U::WIDTH;
     let mut rest = bytes;
     for i in 0..out.len() {
         out[i] = U::read(&rest[0..width]);
@@ -32,10 +32,10 @@ fn read_units<U: WireUnit>(bytes: &[u8], out: &mut [U])
 
 // Writes the units that an instruction inserts into a table, from `at` on, and answers where they end.
 fn store_units<U: WireUnit>(wire: &WireInstruction, units: &mut [U], at: usize) -> usize
-    requires sized { Sized U.width (shown wire.now) }
+    requires sized { Sized U.WIDTH (shown wire.now) }
     requires room { at + inserts_of (shown wire.now) ≤ length units.old }
     ensures end { result ≡ at + inserts_of (shown wire.now) }
-    ensures units { units.new ≡ sets units.old at (units_of_wire (code U.kind U.width U.written U.parsed) (shown wire.now)) }
+    ensures units { units.new ≡ sets units.old at (units_of_wire U.code (shown wire.now)) }
 {
     match wire {
         WireInstruction::Copy { .. } => at,
@@ -52,14 +52,14 @@ fn store_units<U: WireUnit>(wire: &WireInstruction, units: &mut [U], at: usize) 
 
 // Writes the delta in a frame to the front of two tables.
 fn fill<U: WireUnit>(frame: &[u8], count: usize, instructions: &mut [Instruction], units: &mut [U])
-    requires stands { Frames U.width count frame.now }
-    requires few { inserts_in (wires_in U.width count frame.now) ≤ 65535 }
+    requires stands { Frames U.WIDTH count frame.now }
+    requires few { inserts_in (wires_in U.WIDTH count frame.now) ≤ 65535 }
     requires instructions { count ≤ length instructions.old }
-    requires units { inserts_in (wires_in U.width count frame.now) ≤ length units.old }
-    ensures instructions { instructions.new ≡ sets instructions.old 0 (entries 0 (wires_in U.width count frame.now)) }
-    ensures units { units.new ≡ sets units.old 0 (flat_map (units_of_wire (code U.kind U.width U.written U.parsed)) (wires_in U.width count frame.now)) }
+    requires units { inserts_in (wires_in U.WIDTH count frame.now) ≤ length units.old }
+    ensures instructions { instructions.new ≡ sets instructions.old 0 (entries 0 (wires_in U.WIDTH count frame.now)) }
+    ensures units { units.new ≡ sets units.old 0 (flat_map (units_of_wire U.code) (wires_in U.WIDTH count frame.now)) }
 {
-    let width = U::byte_width();
+    let width = U::WIDTH;
     let mut rest = &frame[12..];
     let mut place = 12;
     let mut inserted = 0;
@@ -81,10 +81,10 @@ pub fn read_frame<U: WireUnit>(
     instructions: &mut [Instruction],
     units: &mut [U],
 ) -> Result<Head, ReadFault>
-    ensures answer { result ≡ read_answer (code U.kind U.width U.written U.parsed) frame.now (length instructions.old) (length units.old) }
-    ensures instructions { instructions.new ≡ left_in result instructions.old (held (parsed_frame (code U.kind U.width U.written U.parsed) frame.now) (λ d. d.table)) blank_instruction }
-    ensures units { units.new ≡ left_in result units.old (held (parsed_frame (code U.kind U.width U.written U.parsed) frame.now) (λ d. d.units)) U.Unit.blank }
-    ensures written_again { IfOk result (λ h. encoded (code U.kind U.width U.written U.parsed) (parts h instructions.new units.new) ≡ frame.now) }
+    ensures answer { result ≡ read_answer U.code frame.now (length instructions.old) (length units.old) }
+    ensures instructions { instructions.new ≡ left_in result instructions.old (held (parsed_frame U.code frame.now) (λ d. d.table)) blank_instruction }
+    ensures units { units.new ≡ left_in result units.old (held (parsed_frame U.code frame.now) (λ d. d.units)) U.Unit.blank }
+    ensures written_again { IfOk result (λ h. encoded U.code (parts h instructions.new units.new) ≡ frame.now) }
 {
     let head = check_frame::<U>(frame)?;
     let count = head.instructions;

@@ -2,11 +2,11 @@
 ghost use Rattle.std.specs.Prelude.{◌≡◌, ◌+◌, ◌*◌, ◌^◌, ◌<◌, ◌≤◌, ◌++◌, length, take, drop, IfOk, Ok};
 ghost use Rattle.std.specs.List.{flat_map, AllByRecursion};
 ghost use Rattle.std.proofs.lemmas.List.Edits.{sets};
-ghost use Rattle.deltas.specs.Check.{parts_of};
+ghost use Rattle.deltas.specs.Check.{parts_of, own};
 ghost use Rattle.deltas.specs.Places.{Fits};
 ghost use Rattle.frames.specs.Instructions.{extent, wire_bytes};
-ghost use Rattle.frames.specs.Reading.{code, parsed_frame};
-ghost use Rattle.frames.specs.Writing.{wire_of, instructions_bytes, opening_bytes, encoded, own};
+ghost use Rattle.frames.specs.Reading.{parsed_frame};
+ghost use Rattle.frames.specs.Writing.{wire_of, instructions_bytes, opening_bytes, encoded};
 ghost use Rattle.frames.specs.Outcomes.{length_answer, write_answer, front_in};
 ghost use Rattle.frames.specs.Steps.{extent_of};
 
@@ -27,11 +27,11 @@ fn put(out: &mut [u8], at: usize, bytes: &[u8]) -> usize
 
 // Writes units in the same way.
 fn put_units<U: WireUnit>(out: &mut [u8], at: usize, units: &[U]) -> usize
-    requires { at + length (flat_map U.written units.now) ≤ length out.old }
-    ensures end { result ≡ at + length (flat_map U.written units.now) }
-    ensures out { out.new ≡ sets out.old at (flat_map U.written units.now) }
+    requires { at + length (flat_map U.code.written units.now) ≤ length out.old }
+    ensures end { result ≡ at + length (flat_map U.code.written units.now) }
+    ensures out { out.new ≡ sets out.old at (flat_map U.code.written units.now) }
 {
-    let width = U::byte_width();
+    let width = U::WIDTH;
     let mut end = at;
     for unit in units {
         let next = end + width;
@@ -49,9 +49,9 @@ fn put_instruction<U: WireUnit>(
     instruction: Instruction,
 ) -> usize
     requires fits { Fits 65535 (length units.now) instruction }
-    requires room { at + length (wire_bytes (wire_of (code U.kind U.width U.written U.parsed) units.now instruction)) ≤ length out.old }
-    ensures end { result ≡ at + length (wire_bytes (wire_of (code U.kind U.width U.written U.parsed) units.now instruction)) }
-    ensures out { out.new ≡ sets out.old at (wire_bytes (wire_of (code U.kind U.width U.written U.parsed) units.now instruction)) }
+    requires room { at + length (wire_bytes (wire_of U.code units.now instruction)) ≤ length out.old }
+    ensures end { result ≡ at + length (wire_bytes (wire_of U.code units.now instruction)) }
+    ensures out { out.new ≡ sets out.old at (wire_bytes (wire_of U.code units.now instruction)) }
 {
     let length = instruction.length.to_be_bytes();
     match instruction.op {
@@ -81,8 +81,8 @@ fn put_instructions<U: WireUnit>(
     instructions: &[Instruction],
 )
     requires fits { AllByRecursion (Fits 65535 (length units.now)) instructions.now }
-    requires room { at + length (instructions_bytes (code U.kind U.width U.written U.parsed) units.now instructions.now) ≤ length out.old }
-    ensures { out.new ≡ sets out.old at (instructions_bytes (code U.kind U.width U.written U.parsed) units.now instructions.now) }
+    requires room { at + length (instructions_bytes U.code units.now instructions.now) ≤ length out.old }
+    ensures { out.new ≡ sets out.old at (instructions_bytes U.code units.now instructions.now) }
 {
     let mut end = at;
     for instruction in instructions {
@@ -104,11 +104,11 @@ fn extent_of(instruction: Instruction, width: usize) -> usize
 // How many bytes the frame of a lawful delta has; the count of those after the first five fits four
 // bytes.
 pub fn frame_length<U: WireUnit>(delta: &Delta<U>) -> Result<usize, DeltaFault>
-    ensures answer { result ≡ length_answer (code U.kind U.width U.written U.parsed) (parts_of delta.now) }
+    ensures answer { result ≡ length_answer U.code (parts_of delta.now) }
     ensures fits { IfOk result (λ n. n < 5 + 2 ^ 32) }
 {
     delta.check()?;
-    let width = U::byte_width();
+    let width = U::WIDTH;
     let count = delta.head.instructions;
     let mut length = 12;
     for instruction in &delta.instructions[0..count] {
@@ -143,17 +143,17 @@ fn note_16_bits(number: u16)
 
 // Writes the frame of a lawful delta, of this length, to the front of the output.
 fn write_lawful<U: WireUnit>(delta: &Delta<U>, size: usize, out: &mut [u8])
-    requires size { Ok size ≡ length_answer (code U.kind U.width U.written U.parsed) (parts_of delta.now) }
+    requires size { Ok size ≡ length_answer U.code (parts_of delta.now) }
     requires source { delta.now.head.source ≤ 65535 }
     requires fits { size < 5 + 2 ^ 32 }
     requires room { size ≤ length out.old }
-    ensures { out.new ≡ encoded (code U.kind U.width U.written U.parsed) (parts_of delta.now) ++ drop (length (encoded (code U.kind U.width U.written U.parsed) (parts_of delta.now))) out.old }
+    ensures { out.new ≡ encoded U.code (parts_of delta.now) ++ drop (length (encoded U.code (parts_of delta.now))) out.old }
 {
     let head = delta.head;
     let count = head.instructions;
     let inserted = head.inserted;
     let body = (size - 5) as u32;
-    let kind = U::kind_number();
+    let kind = U::KIND;
     put_opening(out, body, kind, head.source, head.target, count as u16);
     put_instructions(
         out,
@@ -166,9 +166,9 @@ fn write_lawful<U: WireUnit>(delta: &Delta<U>, size: usize, out: &mut [u8])
 // Writes the frame of a delta to the front of the output, and answers its length. The rest of the output
 // stays as it was. A refusal writes nothing.
 pub fn write_frame<U: WireUnit>(delta: &Delta<U>, out: &mut [u8]) -> Result<usize, WriteFault>
-    ensures answer { result ≡ write_answer (code U.kind U.width U.written U.parsed) (parts_of delta.now) (length out.old) }
-    ensures out { out.new ≡ front_in result out.old (encoded (code U.kind U.width U.written U.parsed) (parts_of delta.now)) }
-    ensures read_back { IfOk result (λ n. parsed_frame (code U.kind U.width U.written U.parsed) (take n out.new) ≡ Ok (own (parts_of delta.now))) }
+    ensures answer { result ≡ write_answer U.code (parts_of delta.now) (length out.old) }
+    ensures out { out.new ≡ front_in result out.old (encoded U.code (parts_of delta.now)) }
+    ensures read_back { IfOk result (λ n. parsed_frame U.code (take n out.new) ≡ Ok (own (parts_of delta.now))) }
 {
     let length = frame_length(delta)?;
     if out.len() < length {

@@ -1,4 +1,3 @@
 pub mod Clients
 pub mod Lines
-pub mod Runs
 pub mod Tables

@@ -11,7 +11,8 @@ use crate::words::Words;
 use std::alloc::{AllocError, Global};
 use units::Cashflow;
 
-// A session with units of the kind that the list named last.
+// A session with units of the kind that the list named last. `kept` and `carry_out` each match on it: one place for both
+// would be a dyn value that is handed out, or a macro that is longer than a match.
 #[derive(Drop)]
 pub enum Client {
     Bytes(Session<u8>),
@@ -27,7 +28,7 @@ impl Client {
             instructions: 65535,
             units: 65535,
         };
-        let tally = Tally::new();
+        let tally = Tally::default();
         Client::of_kind(heap, Kind::Byte, Kept { tally, sizes })
     }
 
@@ -59,7 +60,7 @@ impl Client {
     // Carries out a line of the list.
     pub(crate) fn carry_out(
         &mut self,
-        rt: &HostRuntime,
+        rt: &impl Print,
         words: &mut Words<'_>,
     ) -> Result<(), LineError> {
         let named = match self {
@@ -67,7 +68,7 @@ impl Client {
             Client::Cashflows(session) => session.carry_out(rt, words)?,
         };
         if let Some(kind) = named {
-            *self = Client::of_kind(rt.alloc(), kind, self.kept())?;
+            *self = Client::of_kind(words.heap, kind, self.kept())?;
         }
         Ok(())
     }

@@ -5,7 +5,7 @@ use crate::line_error::{Field, LineError};
 use crate::tables::Sizes;
 use crate::text_unit::{TextUnit, read_units};
 use crate::words::Words;
-use std::alloc::Global;
+use std::str::FromStr;
 
 // The kinds of units.
 #[derive(Clone, Copy)]
@@ -28,53 +28,67 @@ pub enum Command<U> {
     TablesOutput,
 }
 
+impl FromStr for Kind {
+    ghost use Rattle.sulgheddo.specs.Clients.{NamesKind};
+
+    type Err = LineError;
+
+    ghost from_str_gives = { NamesKind };
+
+    fn from_str(name: &str) -> Result<Kind, LineError> {
+        match name {
+            "byte" => Ok(Kind::Byte),
+            "cashflow" => Ok(Kind::Cashflow),
+            _ => Err(LineError::Unknown),
+        }
+    }
+}
+
 impl<U: TextUnit> Command<U> {
     // The command of a line's words, or none where the line has none.
-    pub(crate) fn read(
-        heap: Global,
-        words: &mut Words<'_>,
-    ) -> Result<Option<Command<U>>, LineError> {
+    pub(crate) fn read(words: &mut Words<'_>) -> Result<Option<Command<U>>, LineError> {
         let Some(name) = words.next() else {
             return Ok(None);
         };
-        let command = read_named(heap, name, words)?;
+        let command = match name {
+            "kind" => Command::Kind(words.word(Field::Kind)?.parse()?),
+            "room" => Command::read_room(words)?,
+            "combine" => Command::read_combine(words)?,
+            "frame" => Command::Frame(OwnedDelta::read_last(words)?),
+            "parse" => Command::read_parse(words)?,
+            "tables" => Command::read_tables(words)?,
+            _ => return Err(LineError::Unknown),
+        };
         words.end()?;
         Ok(Some(command))
     }
-}
 
-// The command of this name, of the words after it.
-fn read_named<U: TextUnit>(
-    heap: Global,
-    name: &str,
-    words: &mut Words<'_>,
-) -> Result<Command<U>, LineError> {
-    match name {
-        "kind" => read_kind(words),
-        "room" => read_room(words),
-        "combine" => read_combine(heap, words),
-        "frame" => read_frame(heap, words),
-        "parse" => read_parse(heap, words),
-        "tables" => read_tables(words),
-        _ => Err(LineError::Unknown),
-    }
-}
-
-fn read_kind<U>(words: &mut Words<'_>) -> Result<Command<U>, LineError> {
-    match words.word(Field::Kind)? {
-        "byte" => Ok(Command::Kind(Kind::Byte)),
-        "cashflow" => Ok(Command::Kind(Kind::Cashflow)),
-        _ => Err(LineError::Unknown),
-    }
-}
-
-fn read_room<U>(words: &mut Words<'_>) -> Result<Command<U>, LineError> {
-    match words.word(Field::What)? {
-        "output" => Ok(Command::RoomOutput(Sizes {
+    fn read_room(words: &mut Words<'_>) -> Result<Command<U>, LineError> {
+        words.keyword(Field::What, "output")?;
+        Ok(Command::RoomOutput(Sizes {
             instructions: read_entries(Field::InstructionEntries, words)?,
             units: read_entries(Field::UnitEntries, words)?,
-        })),
-        _ => Err(LineError::Unknown),
+        }))
+    }
+
+    fn read_combine(words: &mut Words<'_>) -> Result<Command<U>, LineError> {
+        let earlier = OwnedDelta::read(words)?;
+        match words.at() {
+            Some("then") => Ok(Command::Combine(earlier, OwnedDelta::read_last(words)?)),
+            Some(_) => Err(LineError::Unknown),
+            None => Err(LineError::Missing(Field::Then)),
+        }
+    }
+
+    fn read_parse(words: &mut Words<'_>) -> Result<Command<U>, LineError> {
+        let mut frame = Vec::new(words.heap);
+        read_units(words.word(Field::Frame)?, &mut frame)?;
+        Ok(Command::Parse(frame))
+    }
+
+    fn read_tables(words: &mut Words<'_>) -> Result<Command<U>, LineError> {
+        words.keyword(Field::What, "output")?;
+        Ok(Command::TablesOutput)
     }
 }
 
@@ -87,44 +101,4 @@ fn read_entries(field: Field, words: &mut Words<'_>) -> Result<usize, LineError>
         return Err(LineError::Unfit(field));
     }
     Ok(entries)
-}
-
-fn read_tables<U>(words: &mut Words<'_>) -> Result<Command<U>, LineError> {
-    match words.word(Field::What)? {
-        "output" => Ok(Command::TablesOutput),
-        _ => Err(LineError::Unknown),
-    }
-}
-
-fn read_combine<U: TextUnit>(heap: Global, words: &mut Words<'_>) -> Result<Command<U>, LineError> {
-    let earlier = OwnedDelta::read(heap, words)?;
-    match words.at() {
-        Some("then") => {}
-        Some(_) => return Err(LineError::Unknown),
-        None => return Err(LineError::Missing(Field::Then)),
-    }
-    let later = read_last_delta(heap, words)?;
-    Ok(Command::Combine(earlier, later))
-}
-
-// A delta that goes to the end of the line.
-fn read_last_delta<U: TextUnit>(
-    heap: Global,
-    words: &mut Words<'_>,
-) -> Result<OwnedDelta<U>, LineError> {
-    let delta = OwnedDelta::read(heap, words)?;
-    match words.at() {
-        Some(_) => Err(LineError::Unknown),
-        None => Ok(delta),
-    }
-}
-
-fn read_frame<U: TextUnit>(heap: Global, words: &mut Words<'_>) -> Result<Command<U>, LineError> {
-    Ok(Command::Frame(read_last_delta(heap, words)?))
-}
-
-fn read_parse<U>(heap: Global, words: &mut Words<'_>) -> Result<Command<U>, LineError> {
-    let mut frame = Vec::new(heap);
-    read_units(words.word(Field::Frame)?, &mut frame)?;
-    Ok(Command::Parse(frame))
 }

@@ -1,24 +1,20 @@
-ghost use Rattle.std.specs.Prelude.{◌≡◌, ℕ, ◌<◌, ◌≤◌, true, false, length, drop, MatchOption, slice_index_or};
-ghost use Rattle.sulgheddo.specs.Runs.{Front};
-ghost use Rattle.std.specs.Iterator.{at_most};
-
 use deltas::{Instruction, Op};
 use std::fmt;
 use units::Cashflow;
 
-// What a table holds, and how one entry is printed.
-pub trait Entry: Copy + PartialEq {
+// What a table holds, and how one entry is printed. Not by Display: Instruction and Cashflow are types of other crates,
+// a byte's own is decimal, and three wrappers with a trait to name them are no shorter.
+pub trait Entry: PartialEq {
     fn write_entry<W: fmt::Write>(&self, f: &mut fmt::Formatter<W>) -> fmt::Result;
 }
 
 impl Entry for Instruction {
     fn write_entry<W: fmt::Write>(&self, f: &mut fmt::Formatter<W>) -> fmt::Result {
-        let from = self.from;
-        let length = self.length;
-        match self.op {
-            Op::Copy => write!(f, "copy {from} {length}"),
-            Op::Insert => write!(f, "insert {from} {length}"),
-        }
+        let op = match self.op {
+            Op::Copy => "copy",
+            Op::Insert => "insert",
+        };
+        write!(f, "{op} {} {}", self.from, self.length)
     }
 }
 
@@ -30,13 +26,22 @@ impl Entry for u8 {
 
 impl Entry for Cashflow {
     fn write_entry<W: fmt::Write>(&self, f: &mut fmt::Formatter<W>) -> fmt::Result {
-        let day = self.day;
-        let amount = self.amount;
-        write!(f, "{day}:{amount}")
+        write!(f, "{}:{}", self.day, self.amount)
     }
 }
 
-// All entries of a table, equal neighbours once.
+// An entry as it is printed.
+#[derive(Clone, Copy)]
+pub struct EntryText<'a, T>(pub &'a T);
+
+impl<T: Entry> fmt::Display for EntryText<'_, T> {
+    fn fmt<W: fmt::Write>(&self, f: &mut fmt::Formatter<W>) -> fmt::Result {
+        self.0.write_entry(f)
+    }
+}
+
+// All entries of a table, equal neighbours once. Where a run of them ends is what `chunk_by` promises: neighbours inside
+// a run are equal, and the last of one run and the first of the next are not.
 #[derive(Clone, Copy)]
 pub struct Entries<'a, T>(pub &'a [T]);
 
@@ -45,60 +50,22 @@ impl<T: Entry> fmt::Display for Entries<'_, T> {
         if self.0.is_empty() {
             return f.write_str("-");
         }
-        f.write_joined(Runs { rest: self.0 }, ", ")
+        f.write_joined(self.0.chunk_by(|x, y| x == y).map(Run), ", ")
     }
 }
 
 // Equal neighbours: the entry, and how often it stands there.
 #[derive(Clone, Copy)]
-struct Run<T> {
-    entry: T,
-    count: usize,
-}
+struct Run<'a, T>(&'a [T]);
 
-impl<T: Entry> fmt::Display for Run<T> {
+impl<T: Entry> fmt::Display for Run<'_, T> {
     fn fmt<W: fmt::Write>(&self, f: &mut fmt::Formatter<W>) -> fmt::Result {
-        self.entry.write_entry(f)?;
-        let count = self.count;
-        if count > 1 {
-            write!(f, " x{count}")?;
+        if let Some(entry) = self.0.first() {
+            entry.write_entry(f)?;
+        }
+        if self.0.len() > 1 {
+            write!(f, " x{}", self.0.len())?;
         }
         Ok(())
     }
-}
-
-// The runs of a table, from its front.
-#[derive(Clone, Copy)]
-struct Runs<'a, T> {
-    rest: &'a [T],
-}
-
-impl<T: Entry> Iterator for Runs<'_, T> {
-    type Item = Run<T>;
-
-    ghost remaining = { λ s. at_most (length s.rest.now) };
-
-    ghost next_gives = { λ s r t. MatchOption r (length s.rest.now ≡ 0) (λ run. Front (λ x' y' r'. r' ≡ T.PartialEq.eq x' y') s.rest.now run.entry run.count × (t.rest.now ≡ drop run.count s.rest.now)) };
-
-    fn next(&mut self) -> Option<Run<T>> {
-        let rest = self.rest;
-        let entry = *rest.first()?;
-        let count = 1 + equal_front(entry, &rest[1..]);
-        self.rest = &rest[count..];
-        Some(Run { entry, count })
-    }
-}
-
-// How many entries at the front equal this value.
-fn equal_front<T: Entry>(value: T, entries: &[T]) -> usize
-    ensures within { result ≤ length entries.now }
-    ensures alike { (k : ℕ) → k < result → (true ≡ T.PartialEq.eq (slice_index_or entries.now k value) value) }
-    ensures stops { result < length entries.now → (false ≡ T.PartialEq.eq (slice_index_or entries.now result value) value) }
-{
-    for (i, other) in entries.iter().enumerate() {
-        if *other != value {
-            return i;
-        }
-    }
-    entries.len()
 }

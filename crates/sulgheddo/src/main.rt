@@ -24,7 +24,8 @@ use std::iter::Skip;
 use std::process::ExitCode;
 use words::{Quoted, Words};
 
-// The run ended early, and standard error says why.
+// The run ended early, and standard error says why. An error that `main` prints would need memory for the word at fault,
+// which stands in a line that is gone by then.
 struct Stopped;
 
 fn main(rt: HostRuntime) -> ExitCode {
@@ -34,20 +35,18 @@ fn main(rt: HostRuntime) -> ExitCode {
     }
 }
 
+// Carries out the whole list, and prints how many calls were accepted and refused.
 fn run(rt: &HostRuntime) -> Result<(), Stopped> {
-    let files = match env::args(rt) {
-        Ok(names) => names.skip(1),
-        Err(error) => return Err(stop(rt, error)),
+    let names = env::args(rt).map_err(|error| stop(rt, error))?;
+    let client = Client::new(rt.alloc()).map_err(|_| stop(rt, "out of memory"))?;
+    let mut replay = Replay {
+        rt,
+        client,
+        lines: 0,
     };
-    let Ok(mut client) = Client::new(rt.alloc()) else {
-        return Err(stop(rt, "out of memory"));
-    };
-    replay(rt, &mut client, files)?;
-    let tally = client.tally();
-    match println!(rt; "end: {tally}") {
-        Ok(()) => Ok(()),
-        Err(error) => Err(stop(rt, error)),
-    }
+    replay.files(names.skip(1))?;
+    let tally = replay.client.tally();
+    println!(rt; "end: {tally}").map_err(|error| stop(rt, error))
 }
 
 fn stop(rt: &HostRuntime, why: impl Display + Drop) -> Stopped {
@@ -55,77 +54,62 @@ fn stop(rt: &HostRuntime, why: impl Display + Drop) -> Stopped {
     Stopped
 }
 
-// Carries out the whole list.
-fn replay(rt: &HostRuntime, client: &mut Client, files: Skip<Args>) -> Result<(), Stopped> {
-    let mut lines = 0;
-    let mut from_files = false;
-    for name in files {
-        let input = match File::open(rt, name.as_str()) {
-            Ok(file) => BufReader::new(rt.alloc(), file),
-            Err(error) => Err(error),
-        };
-        match input {
-            Ok(input) => lines = replay_input(rt, client, lines, input)?,
-            Err(error) => return Err(stop(rt, format_args!("{name}: {error}"))),
+// A list on its way: whom it serves, and how many of its lines were read.
+#[derive(Drop)]
+struct Replay<'r> {
+    rt: &'r HostRuntime,
+    client: Client,
+    lines: u64,
+}
+
+impl Replay<'_> {
+    // Carries out the lists in these files, or that of standard input where there are none.
+    fn files(&mut self, names: Skip<Args>) -> Result<(), Stopped> {
+        let rt = self.rt;
+        let mut names = names.peekable();
+        if names.peek().is_none() {
+            let input = BufReader::new(rt.alloc(), rt.stdin()).map_err(|error| stop(rt, error))?;
+            return self.input(input);
         }
-        from_files = true;
+        for name in names {
+            let input = File::open(rt, name.as_str())
+                .and_then(|file| BufReader::new(rt.alloc(), file))
+                .map_err(|error| stop(rt, format_args!("{name}: {error}")))?;
+            self.input(input)?;
+        }
+        Ok(())
     }
-    if !from_files {
-        match BufReader::new(rt.alloc(), rt.stdin()) {
-            Ok(input) => {
-                replay_input(rt, client, lines, input)?;
+
+    // Carries out the lines of one input.
+    fn input(&mut self, input: impl BufRead + Drop) -> Result<(), Stopped> {
+        for line in input.lines(self.rt.alloc()) {
+            self.lines = self.lines.saturating_add(1);
+            let line = line.map_err(|error| self.stop_at_line(LineError::Unread(error), None))?;
+            self.line(line.as_str())?;
+        }
+        Ok(())
+    }
+
+    // Carries out a line. One that begins with `#` is a comment.
+    fn line(&mut self, line: &str) -> Result<(), Stopped> {
+        if line.starts_with('#') {
+            return Ok(());
+        }
+        let mut words = Words::new(self.rt.alloc(), line);
+        self.client
+            .carry_out(self.rt, &mut words)
+            .map_err(|error| self.stop_at_line(error, words.at()))
+    }
+
+    // Says what is wrong with the line that was read last, and with which word of it, if it is one.
+    fn stop_at_line(&self, error: LineError, word: Option<&str>) -> Stopped {
+        let number = self.lines;
+        match word {
+            Some(word) => {
+                let word = Quoted(word);
+                stop(self.rt, format_args!("line {number}: {error}: {word}"))
             }
-            Err(error) => return Err(stop(rt, error)),
+            None => stop(self.rt, format_args!("line {number}: {error}")),
         }
-    }
-    Ok(())
-}
-
-// Carries out the lines of one input, which follow on so many, and answers how many there are then.
-fn replay_input<B: BufRead + Drop>(
-    rt: &HostRuntime,
-    client: &mut Client,
-    before: u64,
-    input: B,
-) -> Result<u64, Stopped> {
-    let mut number = before;
-    for line in input.lines(rt.alloc()) {
-        number = number.saturating_add(1);
-        match line {
-            Ok(line) => replay_line(rt, client, number, line.as_str())?,
-            Err(error) => {
-                let error = LineError::Unread(error);
-                return Err(stop(rt, format_args!("line {number}: {error}")));
-            }
-        }
-    }
-    Ok(number)
-}
-
-// Carries out a line. One that begins with `#` is a comment.
-fn replay_line(
-    rt: &HostRuntime,
-    client: &mut Client,
-    number: u64,
-    line: &str,
-) -> Result<(), Stopped> {
-    if line.starts_with('#') {
-        return Ok(());
-    }
-    let mut words = Words::new(line);
-    match client.carry_out(rt, &mut words) {
-        Ok(()) => Ok(()),
-        Err(error) => Err(stop_at(rt, number, error, words.at())),
-    }
-}
-
-// Says what is wrong with a line, and with which word of it, if it is one.
-fn stop_at(rt: &HostRuntime, number: u64, error: LineError, word: Option<&str>) -> Stopped {
-    match word {
-        Some(word) => {
-            let word = Quoted(word);
-            stop(rt, format_args!("line {number}: {error}: {word}"))
-        }
-        None => stop(rt, format_args!("line {number}: {error}")),
     }
 }

@@ -45,18 +45,17 @@ impl<U: TextUnit> Session<U> {
     // Carries out a line. Where it names a kind, that is the answer.
     pub(crate) fn carry_out(
         &mut self,
-        rt: &HostRuntime,
+        rt: &impl Print,
         words: &mut Words<'_>,
     ) -> Result<Option<Kind>, LineError> {
-        let heap = rt.alloc();
-        let Some(command) = Command::read(heap, words)? else {
+        let Some(command) = Command::read(words)? else {
             return Ok(None);
         };
         match command {
             Command::Kind(kind) => return Ok(Some(kind)),
-            Command::RoomOutput(sizes) => self.resize_output(heap, sizes)?,
+            Command::RoomOutput(sizes) => self.resize_output(words.heap, sizes)?,
             Command::Combine(earlier, later) => self.combine(rt, &earlier, &later)?,
-            Command::Frame(delta) => self.frame(rt, heap, &delta)?,
+            Command::Frame(delta) => self.frame(rt, words.heap, &delta)?,
             Command::Parse(frame) => self.parse(rt, frame.as_slice())?,
             Command::TablesOutput => self.print_output(rt)?,
         }
@@ -79,18 +78,12 @@ impl<U: TextUnit> Session<U> {
         earlier: &OwnedDelta<U>,
         later: &OwnedDelta<U>,
     ) -> io::Result<()> {
-        match self.output.combine(earlier, later) {
-            Ok(head) => {
-                self.kept.tally.accept();
-                let delta = Shown(self.output.delta(head));
-                println!(rt; "combine: {delta}")
-            }
-            Err(fault) => {
-                self.kept.tally.refuse();
-                let refusal = PairRefusal(fault);
-                println!(rt; "combine: {refusal}")
-            }
-        }
+        let answer = self
+            .output
+            .combine(earlier, later)
+            .map(|head| Shown(self.output.delta(head)))
+            .map_err(PairRefusal);
+        self.kept.tally.count(rt, "combine", answer)
     }
 
     fn frame(
@@ -99,34 +92,22 @@ impl<U: TextUnit> Session<U> {
         heap: Global,
         delta: &OwnedDelta<U>,
     ) -> Result<(), LineError> {
-        match delta.to_frame(heap)? {
-            Ok(frame) => {
-                self.kept.tally.accept();
-                let frame = Units(frame.as_slice());
-                println!(rt; "frame: {frame}")?;
-            }
-            Err(fault) => {
-                self.kept.tally.refuse();
-                let refusal = fault.refusal();
-                println!(rt; "frame: {refusal}")?;
-            }
-        }
+        let answer = delta.to_frame(heap)?;
+        let answer = answer
+            .as_ref()
+            .map(|frame| Units(frame.as_slice()))
+            .map_err(|fault| fault.refusal());
+        self.kept.tally.count(rt, "frame", answer)?;
         Ok(())
     }
 
     fn parse(&mut self, rt: &impl Print, frame: &[u8]) -> io::Result<()> {
-        match self.output.parse(frame) {
-            Ok(head) => {
-                self.kept.tally.accept();
-                let delta = Shown(self.output.delta(head));
-                println!(rt; "parse: {delta}")
-            }
-            Err(fault) => {
-                self.kept.tally.refuse();
-                let refusal = fault.refusal();
-                println!(rt; "parse: {refusal}")
-            }
-        }
+        let answer = self
+            .output
+            .parse(frame)
+            .map(|head| Shown(self.output.delta(head)))
+            .map_err(|fault| fault.refusal());
+        self.kept.tally.count(rt, "parse", answer)
     }
 
     fn print_output(&self, rt: &impl Print) -> io::Result<()> {
@@ -141,8 +122,7 @@ struct PairRefusal(PairFault);
 
 impl fmt::Display for PairRefusal {
     fn fmt<W: fmt::Write>(&self, f: &mut fmt::Formatter<W>) -> fmt::Result {
-        let refusal = self.0.refusal();
-        write!(f, "{refusal}")?;
+        write!(f, "{}", self.0.refusal())?;
         match self.0.side() {
             Some(Side::Earlier) => f.write_str(", earlier"),
             Some(Side::Later) => f.write_str(", later"),

@@ -5,7 +5,7 @@ ghost use Rattle.combining.specs.Normal.{runs};
 ghost use Rattle.deltas.specs.Origins.{inserts};
 ghost use Rattle.combining.specs.Outcomes.{combine_answer, left_in};
 ghost use Rattle.frames.specs.Outcomes.{read_answer, held};
-ghost use Rattle.frames.specs.Reading.{code, parsed_frame};
+ghost use Rattle.frames.specs.Reading.{parsed_frame};
 ghost use Rattle.sulgheddo.specs.Tables.{Blank, delta_of};
 
 use crate::delta_text::OwnedDelta;
@@ -74,9 +74,9 @@ impl<U: TextUnit> OwnedTables<U> {
 
     // Reads a frame into the tables.
     pub(crate) fn parse(&mut self, frame: &[u8]) -> Result<Head, ReadFault>
-        ensures answer { result ≡ read_answer (code U.kind U.width U.written U.parsed) frame.now (vec_len self.old.instructions) (vec_len self.old.units) }
-        ensures instructions { self.new.instructions.items ≡ left_in result self.old.instructions.items (held (parsed_frame (code U.kind U.width U.written U.parsed) frame.now) (λ d. d.table)) blank_instruction }
-        ensures units { self.new.units.items ≡ left_in result self.old.units.items (held (parsed_frame (code U.kind U.width U.written U.parsed) frame.now) (λ d. d.units)) U.Unit.blank }
+        ensures answer { result ≡ read_answer U.code frame.now (vec_len self.old.instructions) (vec_len self.old.units) }
+        ensures instructions { self.new.instructions.items ≡ left_in result self.old.instructions.items (held (parsed_frame U.code frame.now) (λ d. d.table)) blank_instruction }
+        ensures units { self.new.units.items ≡ left_in result self.old.units.items (held (parsed_frame U.code frame.now) (λ d. d.units)) U.Unit.blank }
     {
         read_frame(
             frame,
@@ -100,13 +100,11 @@ impl<U: TextUnit> OwnedTables<U> {
 }
 
 // A table that holds one value throughout.
-pub(crate) fn filled<T: Copy>(heap: Global, value: T, count: usize) -> Result<Vec<T>, AllocError>
+fn filled<T: Copy>(heap: Global, value: T, count: usize) -> Result<Vec<T>, AllocError>
     ensures { IfOk result (λ v. v.items ≡ replicate count value) }
 {
-    let mut table = Vec::with_capacity(heap, count)?;
-    for _i in 0..count {
-        table.push(value)?;
-    }
+    let mut table = Vec::new(heap);
+    table.resize(count, value)?;
     Ok(table)
 }
 

@@ -1,8 +1,8 @@
-ghost use Rattle.std.specs.Prelude.{◌+◌, ◌*◌, ◌<◌};
+ghost use Rattle.std.specs.Prelude.{◌+◌, ◌*◌, ◌<◌, ◌≤◌, vec_len};
 ghost use Rattle.std.specs.Option.{SomeIff};
 ghost use Rattle.std.specs.Char.{digit_value};
 
-use crate::entry::Entry;
+use crate::entry::{Entry, EntryText};
 use crate::line_error::{Field, LineError};
 use crate::words::number;
 use std::fmt;
@@ -14,7 +14,8 @@ pub trait TextUnit: WireUnit + Entry {
     const GAP: &'static str;
 
     // Adds the units of a run, one at least, to those that there are.
-    fn read_run(text: &str, units: &mut Vec<Self>) -> Result<(), LineError>;
+    fn read_run(text: &str, units: &mut Vec<Self>) -> Result<(), LineError>
+        ensures { vec_len units.old ≤ vec_len units.new };
 }
 
 impl TextUnit for u8 {
@@ -25,10 +26,7 @@ impl TextUnit for u8 {
             let [high, low] = pair else {
                 return Err(LineError::OddDigit);
             };
-            let Some(byte) = byte_of(*high, *low) else {
-                return Err(LineError::NotHexadecimal);
-            };
-            units.push(byte)?;
+            units.push(byte_of(*high, *low).ok_or(LineError::NotHexadecimal)?)?;
         }
         Ok(())
     }
@@ -56,9 +54,7 @@ impl TextUnit for Cashflow {
 
 // The cashflow that DAY:AMOUNT stands for.
 fn cashflow_of(text: &str) -> Result<Cashflow, LineError> {
-    let Some((day, amount)) = text.split_once(':') else {
-        return Err(LineError::NotCashflow);
-    };
+    let (day, amount) = text.split_once(':').ok_or(LineError::NotCashflow)?;
     Ok(Cashflow {
         day: number(Field::Day, day)?,
         amount: number(Field::Amount, amount)?,
@@ -66,7 +62,9 @@ fn cashflow_of(text: &str) -> Result<Cashflow, LineError> {
 }
 
 // Adds the units that UNITS stands for to those that there are. A lone minus stands for none.
-pub(crate) fn read_units<U: TextUnit>(text: &str, units: &mut Vec<U>) -> Result<(), LineError> {
+pub(crate) fn read_units<U: TextUnit>(text: &str, units: &mut Vec<U>) -> Result<(), LineError>
+    ensures { vec_len units.old ≤ vec_len units.new }
+{
     if text == "-" {
         return Ok(());
     }
@@ -82,12 +80,6 @@ impl<U: TextUnit> fmt::Display for Units<'_, U> {
         if self.0.is_empty() {
             return f.write_str("-");
         }
-        for (i, unit) in self.0.iter().enumerate() {
-            if i > 0 {
-                f.write_str(U::GAP)?;
-            }
-            unit.write_entry(f)?;
-        }
-        Ok(())
+        f.write_joined(self.0.iter().map(EntryText), U::GAP)
     }
 }

@@ -3,24 +3,27 @@ ghost use Rattle.sulgheddo.specs.Lines.{unread};
 ghost use Rattle.std.specs.Iterator.{at_most};
 
 use crate::line_error::{Field, LineError};
+use std::alloc::Global;
 use std::fmt;
 use std::num::{IntErrorKind, ParseIntError};
 use std::str::FromStr;
 
-// The words of a line, which spaces part, read from left to right.
+// The words of a line, which spaces part, read from left to right, and where the memory for what they say comes from.
 #[derive(Clone, Copy)]
 pub struct Words<'a> {
+    pub heap: Global,
     // the word that was read last; none before the first word and after the last
     at: Option<&'a str>,
     rest: &'a str,
 }
 
 impl<'a> Words<'a> {
-    pub(crate) fn new(line: &'a str) -> Words<'a>
+    pub(crate) fn new(heap: Global, line: &'a str) -> Words<'a>
         ensures at { result.at ≡ None }
         ensures rest { result.rest.now ≡ line.now }
     {
         Words {
+            heap,
             at: None,
             rest: line,
         }
@@ -37,10 +40,7 @@ impl<'a> Words<'a> {
     pub(crate) fn word(&mut self, field: Field) -> Result<&'a str, LineError>
         ensures { unread self.new ≤ unread self.old }
     {
-        match self.next() {
-            Some(word) => Ok(word),
-            None => Err(LineError::Missing(field)),
-        }
+        self.next().ok_or(LineError::Missing(field))
     }
 
     // The next word as a number.
@@ -51,6 +51,17 @@ impl<'a> Words<'a> {
         ensures { unread self.new ≤ unread self.old }
     {
         number(field, self.word(field)?)
+    }
+
+    // Reads the next word, which can only be this one.
+    pub(crate) fn keyword(&mut self, field: Field, keyword: &str) -> Result<(), LineError>
+        ensures { unread self.new ≤ unread self.old }
+    {
+        if self.word(field)? == keyword {
+            Ok(())
+        } else {
+            Err(LineError::Unknown)
+        }
     }
 
     // Refuses a word more.
@@ -94,13 +105,11 @@ pub(crate) fn number<N: FromStr<Err = ParseIntError>>(
     if word.starts_with('+') {
         return Err(LineError::NotNumber(field));
     }
-    match word.parse::<N>() {
-        Ok(number) => Ok(number),
-        Err(error) => Err(match error.kind() {
+    word.parse()
+        .map_err(|error: ParseIntError| match error.kind() {
             IntErrorKind::PosOverflow | IntErrorKind::NegOverflow => LineError::Unfit(field),
             _ => LineError::NotNumber(field),
-        }),
-    }
+        })
 }
 
 // How many characters of a word are quoted.

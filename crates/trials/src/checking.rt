@@ -1,17 +1,14 @@
 // Every refusal of a delta's check, with its place, and the normal form.
 
-use crate::tables::{copy, delta, insert, refusal};
+use crate::tables::{copy, delta, head, insert, refusal};
 use combining::{is_normal, normalise};
-use deltas::{Delta, DeltaFault, Head, Instruction, NormalFault};
+use deltas::{Delta, DeltaFault, Instruction, NormalFault};
 use std::test::Fail;
 use units::{Layer, Refusal};
 
 // How a delta's check refuses it, if it does.
 fn refused(d: &Delta<u8>) -> Option<Refusal> {
-    match d.check() {
-        Ok(_) => None,
-        Err(fault) => Some(fault.refusal()),
-    }
+    d.check().err().map(Refusal::from)
 }
 
 #[test]
@@ -65,14 +62,8 @@ fn counted<'i, 'u>(
     table: &'i [Instruction],
     units: &'u [u8],
 ) -> Delta<'i, 'u, u8> {
-    let head = Head {
-        source: 9,
-        target: 1,
-        instructions,
-        inserted,
-    };
     Delta {
-        head,
+        head: head(9, 1, instructions, inserted),
         instructions: table,
         units,
     }
@@ -115,13 +106,7 @@ fn normal_forms(rt: HostRuntime) {
     let mut instructions = [insert(7, 7); 8];
     let mut units = [9; 8];
     let answer = normalise(&delta(3, 6, &split, b"abc"), &mut instructions, &mut units);
-    let head = Head {
-        source: 3,
-        target: 6,
-        instructions: 2,
-        inserted: 3,
-    };
-    assert_eq!(rt; answer, Ok(head));
+    assert_eq!(rt; answer, Ok(head(3, 6, 2, 3)));
     assert_eq!(rt;
         instructions,
         [

@@ -1,8 +1,7 @@
 // Frames: every refusal with its place, what is left in tables and outputs, and the way there and back.
 
 use crate::frame_checks::{bytes, refuses, refuses_each, there_and_back, unread};
-use crate::tables::{copy, delta, insert, refusal};
-use deltas::Head;
+use crate::tables::{copy, delta, head, insert, refusal};
 use frames::{check_frame, read_frame, write_frame};
 use std::process::Abort;
 use std::test::Fail;
@@ -30,7 +29,7 @@ fn openings_are_refused_at_the_first_fault(rt: HostRuntime) -> Result<(), Fail> 
         ("01 00000007 00 0000 0000 0000", 4, 5),
         ("01 00000008 02 0000 0000 0001 05", 4, 5),
     ];
-    refuses_each(&rt, rt.alloc(), Layer::Frame, &cases)
+    refuses_each(&rt, Layer::Frame, &cases)
 }
 
 #[test]
@@ -57,7 +56,7 @@ fn instructions_are_refused_at_the_place_of_their_tag(rt: HostRuntime) -> Result
             17,
         ),
     ];
-    refuses_each(&rt, rt.alloc(), Layer::Frame, &cases)
+    refuses_each(&rt, Layer::Frame, &cases)
 }
 
 #[test]
@@ -83,7 +82,7 @@ fn a_frame_of_an_unlawful_delta_is_refused_as_the_delta_is(rt: HostRuntime) -> R
             2,
         ),
     ];
-    refuses_each(&rt, rt.alloc(), Layer::Delta, &cases)
+    refuses_each(&rt, Layer::Delta, &cases)
 }
 
 #[test]
@@ -103,12 +102,13 @@ fn a_changed_byte_is_refused_or_read_as_another_delta(rt: HostRuntime) -> Result
     let mut all = bytes(rt.alloc(), SHORT)?;
     let frame = all.as_mut_slice();
     let mut count = 0u32;
+    // by its place, since the whole frame is read at each turn
     for place in 0..frame.len() {
         let old = frame[place];
         for value in 0..=255 {
             frame[place] = value;
             if value != old && check_frame::<u8>(frame).is_ok() {
-                there_and_back::<u8>(&rt, rt.alloc(), frame)?;
+                there_and_back::<u8>(&rt, frame)?;
                 count = count.wrapping_add(1);
             }
         }
@@ -158,15 +158,9 @@ fn tables_hold_the_last_delta_and_then_blanks(rt: HostRuntime) -> Result<(), Fai
     let mut instructions = [insert(7, 7); 4];
     let mut units = [9; 5];
     read_frame(long.as_slice(), &mut instructions, &mut units)?;
-    let head = Head {
-        source: 3,
-        target: 5,
-        instructions: 2,
-        inserted: 3,
-    };
     assert_eq!(rt;
         read_frame(short.as_slice(), &mut instructions, &mut units)?,
-        head
+        head(3, 5, 2, 3)
     );
     assert_eq!(rt;
         instructions,
@@ -179,7 +173,7 @@ fn tables_hold_the_last_delta_and_then_blanks(rt: HostRuntime) -> Result<(), Fai
 #[test]
 fn an_output_keeps_what_stands_behind_the_frame(rt: HostRuntime) -> Result<(), Fail> {
     let mut out = bytes(rt.alloc(), LONG)?;
-    there_and_back::<u8>(&rt, rt.alloc(), out.as_slice())?;
+    there_and_back::<u8>(&rt, out.as_slice())?;
     let table = [copy(1, 2), insert(0, 3)];
     let sent = delta(3, 5, &table, b"abc");
     assert_eq!(rt; write_frame(&sent, out.as_mut_slice())?, 23);
@@ -197,7 +191,7 @@ fn cashflows_go_there_and_back(rt: HostRuntime) -> Result<(), Fail> {
         rt.alloc(),
         "01 00000027 02 0001 0003 0002 01 0000 0001 02 0002 00004e20 fffffffffffffe0c ffffffff 8000000000000000",
     )?;
-    there_and_back::<Cashflow>(&rt, rt.alloc(), frame.as_slice())?;
+    there_and_back::<Cashflow>(&rt, frame.as_slice())?;
     let mut instructions = [insert(7, 7); 3];
     let mut units = [Cashflow { day: 9, amount: 9 }; 3];
     read_frame(frame.as_slice(), &mut instructions, &mut units)?;
@@ -224,10 +218,12 @@ fn cashflows_are_refused_in_other_frames_and_cut_short(rt: HostRuntime) -> Resul
     let cut = "01 00000015 02 0000 0001 0001 02 0001 00004e20 fffffffffffffe";
     for (text, number, place) in [(SHORT, 4, 5), (cut, 1, 12)] {
         let frame = bytes(rt.alloc(), text)?;
-        match check_frame::<Cashflow>(frame.as_slice()) {
-            Ok(_) => return Err(Fail::new("the check accepts it")),
-            Err(fault) => assert_eq!(rt; fault.refusal(), refusal(number, Layer::Frame, place)),
-        }
+        assert_eq!(rt;
+            check_frame::<Cashflow>(frame.as_slice())
+                .err()
+                .map(Refusal::from),
+            Some(refusal(number, Layer::Frame, place))
+        );
     }
     Ok(())
 }

@@ -9,7 +9,7 @@ use units::Layer;
 #[test]
 fn nothing_at_all_goes_there_and_back(rt: HostRuntime) -> Result<(), Fail> {
     let frame = bytes(rt.alloc(), "01 00000007 01 0000 0000 0000")?;
-    there_and_back::<u8>(&rt, rt.alloc(), frame.as_slice())
+    there_and_back::<u8>(&rt, frame.as_slice())
 }
 
 // A frame of so many bytes, with two inserts, of which the first is of 40,000 units.
@@ -36,7 +36,7 @@ fn no_more_than_65535_units_are_inserted(rt: HostRuntime) -> Result<(), Fail> {
         "02 63bf",
         65553,
     )?;
-    there_and_back::<u8>(&rt, heap, most.as_slice())?;
+    there_and_back::<u8>(&rt, most.as_slice())?;
     let wrong = refusal(9, Layer::Delta, 0);
     let more = two_inserts(
         heap,
@@ -58,9 +58,9 @@ fn no_more_than_65535_units_are_inserted(rt: HostRuntime) -> Result<(), Fail> {
 #[test]
 fn the_most_instructions_go_there_and_back(rt: HostRuntime) -> Result<(), Fail> {
     let mut frame = bytes(rt.alloc(), "01 00050002 01 ffff ffff ffff")?;
-    for i in 0..65535u16 {
-        let [high, low] = (65534 - i).to_be_bytes();
+    for place in (0..65535u16).rev() {
+        let [high, low] = place.to_be_bytes();
         frame.extend_from_slice(&[1, high, low, 0, 1])?;
     }
-    there_and_back::<u8>(&rt, rt.alloc(), frame.as_slice())
+    there_and_back::<u8>(&rt, frame.as_slice())
 }

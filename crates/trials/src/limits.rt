@@ -1,29 +1,26 @@
 // The shortest and the longest deltas.
 
-use crate::tables::{copy, delta, insert};
+use crate::tables::{copy, delta, head, insert};
 use combining::combine;
-use deltas::{Head, Instruction};
+use deltas::Instruction;
 use std::test::Fail;
 
 #[test]
 fn nothing_at_all(rt: HostRuntime) {
     let none: [Instruction; 0] = [];
     let empty = delta(0, 0, &none, b"");
-    let head = Head {
-        source: 0,
-        target: 0,
-        instructions: 0,
-        inserted: 0,
-    };
-    assert_eq!(rt; combine(&empty, &empty, &mut [], &mut []), Ok(head));
+    assert_eq!(rt;
+        combine(&empty, &empty, &mut [], &mut []),
+        Ok(head(0, 0, 0, 0))
+    );
 }
 
 // 65,535 places in turned order, one instruction for each; turned again, they are one copy.
 #[test]
 fn turned_twice(rt: HostRuntime) -> Result<(), Fail> {
     let mut turned = Vec::new(rt.alloc());
-    for i in 0..65535u16 {
-        turned.push(copy(65534 - i, 1))?;
+    for place in (0..65535).rev() {
+        turned.push(copy(place, 1))?;
     }
     let mut instructions = Vec::from_elem(rt.alloc(), insert(7, 7), 65535)?;
     let mut units = Vec::from_elem(rt.alloc(), 9u8, 65535)?;
@@ -34,13 +31,7 @@ fn turned_twice(rt: HostRuntime) -> Result<(), Fail> {
         instructions.as_mut_slice(),
         units.as_mut_slice(),
     );
-    let head = Head {
-        source: 65535,
-        target: 65535,
-        instructions: 1,
-        inserted: 0,
-    };
-    assert_eq!(rt; answer, Ok(head));
+    assert_eq!(rt; answer, Ok(head(65535, 65535, 1, 0)));
     assert_eq!(rt; instructions.get(0).copied(), Some(copy(0, 65535)));
     assert_eq!(rt; instructions.get(1).copied(), Some(copy(0, 0)));
     assert_eq!(rt; instructions.last().copied(), Some(copy(0, 0)));
@@ -65,13 +56,7 @@ fn all_inserted(rt: HostRuntime) -> Result<(), Fail> {
         instructions.as_mut_slice(),
         units.as_mut_slice(),
     );
-    let head = Head {
-        source: 0,
-        target: 65535,
-        instructions: 1,
-        inserted: 65535,
-    };
-    assert_eq!(rt; answer, Ok(head));
+    assert_eq!(rt; answer, Ok(head(0, 65535, 1, 65535)));
     assert_eq!(rt; instructions.get(0).copied(), Some(insert(0, 65535)));
     assert_eq!(rt; units.last().copied(), Some(5));
     Ok(())

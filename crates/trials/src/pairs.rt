@@ -1,8 +1,8 @@
 // Combining: what is left in tables that held something longer, and every refusal with its place.
 
-use crate::tables::{copy, delta, insert, refusal};
+use crate::tables::{copy, delta, fault_of, head, insert, refusal};
 use combining::combine;
-use deltas::{Delta, Head, Instruction, PairFault, Side};
+use deltas::{Delta, Side};
 use std::process::Abort;
 use std::test::Fail;
 use units::{Layer, Refusal};
@@ -19,13 +19,7 @@ fn tables_that_held_something_longer(rt: HostRuntime) {
         &mut instructions,
         &mut units,
     );
-    let head = Head {
-        source: 6,
-        target: 5,
-        instructions: 3,
-        inserted: 1,
-    };
-    assert_eq!(rt; answer, Ok(head));
+    assert_eq!(rt; answer, Ok(head(6, 5, 3, 1)));
     assert_eq!(rt;
         instructions,
         [
@@ -42,7 +36,7 @@ fn tables_that_held_something_longer(rt: HostRuntime) {
     assert_eq!(rt; units, [121, 0, 0, 0, 0, 0, 0, 0]);
 }
 
-// How a pair is refused, if it is, with the side at fault. The tables must then be as they were.
+// How a pair is refused, if it is, with the side at fault.
 fn refused(
     rt: &impl Abort,
     earlier: &Delta<u8>,
@@ -50,22 +44,10 @@ fn refused(
     entries: usize,
     more: usize,
 ) -> Result<Option<(Refusal, Option<Side>)>, Fail> {
-    let mut instructions = [insert(7, 7); 8];
-    let mut units = [9; 8];
-    let answer = combine(
-        earlier,
-        later,
-        &mut instructions[0..entries.min(8)],
-        &mut units[0..more.min(8)],
-    );
-    match answer {
-        Ok(_) => Ok(None),
-        Err(fault) => {
-            assert_eq!(rt; instructions, [insert(7, 7); 8]);
-            assert_eq!(rt; units, [9; 8]);
-            Ok(Some((fault.refusal(), fault.side())))
-        }
-    }
+    let fault = fault_of(rt, entries, more, |instructions, units| {
+        combine(earlier, later, instructions, units)
+    })?;
+    Ok(fault.map(|fault| (fault.refusal(), fault.side())))
 }
 
 #[test]

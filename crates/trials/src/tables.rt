@@ -1,6 +1,8 @@
-// What the tests share: short ways to write instructions, deltas and refusals.
+// What the tests share: short ways to write instructions, deltas and refusals, and calls that are refused.
 
 use deltas::{Delta, Head, Instruction, Op};
+use std::process::Abort;
+use std::test::Fail;
 use units::{Layer, Refusal};
 
 pub(crate) fn copy(from: u16, length: u16) -> Instruction {
@@ -11,6 +13,15 @@ pub(crate) fn insert(from: u16, length: u16) -> Instruction {
     Instruction::new(Op::Insert, from, length)
 }
 
+pub(crate) fn head(source: u16, target: u16, instructions: usize, inserted: usize) -> Head {
+    Head {
+        source,
+        target,
+        instructions,
+        inserted,
+    }
+}
+
 // A delta whose counts are its tables' lengths.
 pub(crate) fn delta<'i, 'u>(
     source: u16,
@@ -18,14 +29,8 @@ pub(crate) fn delta<'i, 'u>(
     instructions: &'i [Instruction],
     units: &'u [u8],
 ) -> Delta<'i, 'u, u8> {
-    let head = Head {
-        source,
-        target,
-        instructions: instructions.len(),
-        inserted: units.len(),
-    };
     Delta {
-        head,
+        head: head(source, target, instructions.len(), units.len()),
         instructions,
         units,
     }
@@ -36,5 +41,30 @@ pub(crate) fn refusal(number: u8, layer: Layer, place: usize) -> Refusal {
         number,
         layer,
         place,
+    }
+}
+
+// The fault of a call that writes into tables of so many entries, if it is refused. The tables must then be
+// as they were.
+pub(crate) fn fault_of<E: Drop, F: FnOnce(&mut [Instruction], &mut [u8]) -> Result<Head, E>>(
+    rt: &impl Abort,
+    entries: usize,
+    more: usize,
+    call: F,
+) -> Result<Option<E>, Fail>
+    requires { F.IsAlwaysCallable call }
+{
+    let mut instructions = [insert(7, 7); 8];
+    let mut units = [9; 8];
+    match call(
+        &mut instructions[0..entries.min(8)],
+        &mut units[0..more.min(8)],
+    ) {
+        Ok(_) => Ok(None),
+        Err(fault) => {
+            assert_eq!(rt; instructions, [insert(7, 7); 8]);
+            assert_eq!(rt; units, [9; 8]);
+            Ok(Some(fault))
+        }
     }
 }

@@ -3,6 +3,7 @@ use Rattle.std.specs.Prelude.{◌≡◌, ℕ, zero, suc, ◌+◌, ◌*◌, ◌/�
 use Rattle.std.proofs.Common.{sym, ap, subst, ◌∙◌, le_of_eq, mod-eq_of_lt, mul-one, add-zero, add-mul, mul_assoc, zero-mul, arith, lit<}
 use Rattle.std.proofs.Math.Nat.{pow-succ', mod-one}
 use Rattle.std.proofs.Math.Arith.{digits_div, digits_mod, mod-mul}
+use Rattle.std.specs.Int.{from_be_bytes, w32, w64}
 use Rattle.std.specs.Int.Digits.{number_from_digits_after, AllBelowBase}
 use Rattle.std.proofs.lemmas.Int.Digits.{number_lt}
 use Rattle.std.proofs.ByRecursion.{All-drop, All-take}
@@ -79,7 +80,7 @@ under_part : (i k : ℕ) (bs : List ℕ) → AllBelowBase 256 bs → AllBelowBas
 under_part i k bs u = All-take (λ (b : ℕ). b < 256) k (drop i bs) (All-drop (λ (b : ℕ). b < 256) i bs u)
 
 -- the number in bytes is what they stand for
-number_at_is : (i k : ℕ) (bs : List ℕ) → i + k ≤ length bs → AllBelowBase 256 bs → number_at i k bs ≡ from_big_endian (take k (drop i bs))
+pub number_at_is : (i k : ℕ) (bs : List ℕ) → i + k ≤ length bs → AllBelowBase 256 bs → number_at i k bs ≡ from_big_endian (take k (drop i bs))
 number_at_is i k bs h u = mod-eq_of_lt (from_big_endian_lt k (take k (drop i bs)) (length_part i k bs h) (under_part i k bs u))
 
 -- bytes are written back from the number in them
@@ -92,3 +93,18 @@ big_endian_at i k bs h u =
 -- the number in bytes, where a program reads them one by one
 pub number_at_reads : (i k : ℕ) (bs : List ℕ) → i + k ≤ length bs → AllBelowBase 256 bs → number_at i k bs ≡ from_big_endian (reads k i bs)
 number_at_reads i k bs h u = number_at_is i k bs h u ∙ ap from_big_endian (part_reads k i bs h)
+
+-- the number that the language reads from four bytes, and from eight
+pub four_bytes : (bs : List ℕ) → length bs ≡ 4 → from_be_bytes w32 bs ≡ from_big_endian bs
+four_bytes bs long =
+    let all = take_all 4 bs (le_of_eq long) in
+    let read = part_reads 4 0 bs (le_of_eq (sym long)) in
+    let number : from_be_bytes w32 bs ≡ from_big_endian (reads 4 0 bs) = omega arith in
+    number ∙ ap from_big_endian (sym read ∙ all)
+
+pub eight_bytes : (bs : List ℕ) → length bs ≡ 8 → from_be_bytes w64 bs ≡ from_big_endian bs
+eight_bytes bs long =
+    let all = take_all 8 bs (le_of_eq long) in
+    let read = part_reads 8 0 bs (le_of_eq (sym long)) in
+    let number : from_be_bytes w64 bs ≡ from_big_endian (reads 8 0 bs) = omega arith in
+    number ∙ ap from_big_endian (sym read ∙ all)

@@ -1,7 +1,7 @@
 -- The laws of the cashflow kind.
 use mathlib.Core.HLevel.{is_prop→PathP}
 use Rattle.std.specs.Prelude.{◌≡◌, ℕ, ◌^◌, ◌<◌, ◌≤◌, List, ◌++◌, length, drop, FitsSigned, slice_index}
-use Rattle.std.proofs.Common.{ap, ap₂, ◌∙◌, arith, of_z, to_z}
+use Rattle.std.proofs.Common.{ap, ap₂, ◌∙◌, arith, rules, of_z, to_z}
 use Rattle.std.proofs.Math.Bridge.{le_prop}
 use Rattle.std.specs.Int.Signed.{mag}
 use Rattle.std.proofs.Math.Facts.{Fits-of_z}
@@ -11,7 +11,8 @@ use Rattle.std.proofs.lemmas.List.{length-drop, take_all, take-append-drop}
 use Rattle.std.proofs.lemmas.Int.{of_z-to_z, to_z-of_z}
 use Rattle.std.specs.Int.Digits.{AllBelowBase}
 use Rattle.units.specs.BigEndian.{big_endian, number_at}
-use Rattle.units.specs.Cashflows.{bits_fit, cashflow_bytes, cashflow_of}
+use Rattle.units.specs.Code.{CodeLaws}
+use Rattle.units.specs.Cashflows.{bits_fit, cashflow_bytes, cashflow_of, cashflow_code}
 use Rattle.units.specs.declared.cashflow.Cashflow.{Cashflow}
 use Rattle.units.specs.BigEndians.{big_endian_at, number_at_big_endian}
 
@@ -42,3 +43,12 @@ bytes_of bs long bytes =
     let amount = ap (big_endian 8) bits ∙ big_endian_at 4 8 bs (omega arith) all in
     let rest : length (drop 4 bs) ≤ 8 = rw length-drop (omega arith) in
     ap₂ (λ (x y : List ℕ). x ++ y) day (amount ∙ take_all 8 (drop 4 bs) rest) ∙ take-append-drop 4 bs
+
+-- the laws of the code
+pub cashflow_laws : CodeLaws cashflow_code
+cashflow_laws = record {
+  length_written = Prim.search rules;
+  parsed_written = of_bytes;
+  written_parsed = bytes_of;
+  frame_fits = Prim.search rules;
+}

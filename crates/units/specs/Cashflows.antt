@@ -4,6 +4,7 @@ use Rattle.std.proofs.Common.{mod-lt, lit<, of_z, to_z}
 use Rattle.std.specs.Int.Signed.{mag}
 use Rattle.std.proofs.Math.Facts.{sfits_to_z}
 use Rattle.std.specs.Int.{w64}
+use Rattle.units.specs.Code.{Code}
 use Rattle.units.specs.BigEndian.{big_endian, from_big_endian, number_at}
 use Rattle.units.specs.declared.cashflow.Cashflow.{Cashflow}
 
@@ -36,3 +37,7 @@ cashflow_of bs =
       fits_day = day_fits bs;
       fits_amount = amount_fits bs;
     }
+
+-- how cashflows are sent: kind 2, 12 bytes for each
+abbrev pub cashflow_code : Code Cashflow 2 12
+cashflow_code = record { written = cashflow_bytes; parsed = cashflow_of }

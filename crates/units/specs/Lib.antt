@@ -1,4 +1,6 @@
+pub mod Code
 pub mod BigEndian
+pub mod Bytes
 pub mod Cashflows
 pub mod RefusalText
 pub mod Runs

@@ -7,10 +7,10 @@ use crate::wire::WireUnit;
 // Writes a unit over `out` and reads it back. Where `out` has not the kind's width it answers `None` and
 // writes nothing.
 pub fn round_trip<U: WireUnit>(unit: U, out: &mut [u8]) -> Option<U>
-    ensures answer { result ≡ (if nat_eq (length out.old) U.WireUnit.width then Some unit else None) }
-    ensures bytes { out.new ≡ (if nat_eq (length out.old) U.WireUnit.width then U.WireUnit.written unit else out.old) }
+    ensures answer { result ≡ (if nat_eq (length out.old) U.WIDTH then Some unit else None) }
+    ensures bytes { out.new ≡ (if nat_eq (length out.old) U.WIDTH then U.code.written unit else out.old) }
 {
-    if out.len() == U::byte_width() {
+    if out.len() == U::WIDTH {
         unit.write(out);
         Some(U::read(out))
     } else {
@@ -20,7 +20,7 @@ pub fn round_trip<U: WireUnit>(unit: U, out: &mut [u8]) -> Option<U>
 
 // How many bytes the body of a lawful delta's frame can have at most: a number of four bytes says it.
 pub fn longest_body<U: WireUnit>() -> u32
-    ensures { result ≡ 7 + 65535 * max 5 (3 + U.WireUnit.width) }
+    ensures { result ≡ 7 + 65535 * max 5 (3 + U.WIDTH) }
 {
-    7 + 65535 * (3 + U::byte_width() as u32).max(5)
+    7 + 65535 * (3 + U::WIDTH as u32).max(5)
 }

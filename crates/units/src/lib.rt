@@ -12,6 +12,6 @@ mod wire;
 pub use cashflow::Cashflow;
 pub use checks::{longest_body, round_trip};
 pub use refusal::{Layer, Refusal};
-pub use room::{RoomUnit, Slots};
+pub use room::{Room, RoomUnit, Slots};
 pub use unit::Unit;
 pub use wire::WireUnit;

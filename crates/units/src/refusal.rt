@@ -19,7 +19,8 @@ pub enum Layer {
 }
 
 // Why a call was refused: the number of the reason, the layer that found it, and the place (an index,
-// a number or a length, as the reason says).
+// a number or a length, as the reason says). A number and not an enum: users know refusals by it, and code
+// matches on the faults, of which it is made.
 #[derive(Clone, Copy, PartialEq, Eq, Debug)]
 pub struct Refusal {
     pub number: u8,
@@ -45,9 +46,10 @@ impl fmt::Display for Refusal {
     ghost output = { λ r. Some (refusal_text r) };
 
     fn fmt<W: fmt::Write>(&self, f: &mut fmt::Formatter<W>) -> fmt::Result {
-        let number = self.number;
-        let place = self.place;
-        let layer = self.layer;
-        write!(f, "refused {number} at {place} ({layer})")
+        write!(
+            f,
+            "refused {} at {} ({})",
+            self.number, self.place, self.layer
+        )
     }
 }

@@ -2,6 +2,42 @@ ghost use Rattle.std.specs.Prelude.{◌≡◌, ◌<◌, List, length, replicate,
 
 use crate::unit::Unit;
 
+// Room for 64 units of one kind.
+pub trait Room: Drop {
+    // the kind of unit that it holds
+    type Held: Unit;
+
+    // the units in a room, in their order
+    ghost held: { Self → List Self.Held };
+
+    // A room of blanks.
+    fn room() -> Self
+        ensures { held result ≡ replicate 64 Self.Held.blank };
+
+    // Lends the units of a room.
+    fn room_units(&self) -> &[Self::Held]
+        ensures { result.now ≡ held self.now };
+
+    // The unit at an index of a room.
+    fn room_unit(&self, i: usize) -> Self::Held
+        requires { i < 64 }
+        ensures { result ≡ slice_index_or (held self.now) i Self.Held.blank };
+
+    // Writes a unit at an index of a room, and leaves the others.
+    fn room_put(&mut self, i: usize, unit: Self::Held)
+        requires { i < 64 }
+        ensures { held self.new ≡ slice_set (held self.old) i unit };
+
+    // A room always holds 64 units.
+    ghost full: { (r : Self) → length (held r) ≡ 64 };
+}
+
+// A unit that comes with room for 64 of its kind.
+pub trait RoomUnit: Unit {
+    // what holds the 64 units
+    type Room: Room<Held = Self>;
+}
+
 // Sixty-four units in a row. The ghost field says how many to specifications, where an array is a list
 // of any length.
 #[derive(Drop)]
@@ -10,32 +46,28 @@ pub struct Slots<U> {
     ghost full: { length units ≡ 64 },
 }
 
-// A unit that comes with room for 64 of its kind.
-pub trait RoomUnit: Unit {
-    // what holds the 64 units
-    type Room: Drop;
+impl<U: Unit> Room for Slots<U> {
+    type Held = U;
 
-    // the units in a room, in their order
-    ghost held: { Self.Room → List Self };
+    ghost held = { λ r. r.units };
 
-    // a proof that a room always holds 64 units
-    ghost full: { (r : Self.Room) → length (held r) ≡ 64 };
+    ghost full = { λ r. r.full };
 
-    // A room of blanks.
-    fn room() -> Self::Room
-        ensures { held result ≡ replicate 64 Self.Unit.blank };
+    fn room() -> Slots<U> {
+        Slots {
+            units: [U::blank(); 64],
+        }
+    }
 
-    // Lends the units of a room.
-    fn room_units(room: &Self::Room) -> &[Self]
-        ensures { result.now ≡ held room.now };
+    fn room_units(&self) -> &[U] {
+        &self.units
+    }
 
-    // The unit at an index of a room.
-    fn room_unit(room: &Self::Room, i: usize) -> Self
-        requires { i < 64 }
-        ensures { result ≡ slice_index_or (held room.now) i Self.Unit.blank };
+    fn room_unit(&self, i: usize) -> U {
+        self.units[i]
+    }
 
-    // Writes a unit at an index of a room, and leaves the others.
-    fn room_put(room: &mut Self::Room, i: usize, unit: Self)
-        requires { i < 64 }
-        ensures { held room.new ≡ slice_set (held room.old) i unit };
+    fn room_put(&mut self, i: usize, unit: U) {
+        self.units[i] = unit;
+    }
 }

@@ -1,6 +1,5 @@
-ghost use Rattle.units.specs.Cashflows.{no_payment, cashflow_bytes, cashflow_of};
-ghost use Rattle.units.specs.CashflowLaws.{of_bytes, bytes_of};
-ghost use Rattle.std.proofs.Common.{rules, arith};
+ghost use Rattle.units.specs.Cashflows.{no_payment, cashflow_code};
+ghost use Rattle.units.specs.CashflowLaws.{cashflow_laws};
 
 use crate::cashflow::Cashflow;
 use crate::room::{RoomUnit, Slots};
@@ -19,58 +18,20 @@ impl Unit for Cashflow {
 
 impl RoomUnit for Cashflow {
     type Room = Slots<Cashflow>;
-
-    ghost held = { λ r. r.units };
-
-    ghost full = { λ r. r.full };
-
-    fn room() -> Slots<Cashflow> {
-        Slots {
-            units: [<Cashflow as Unit>::blank(); 64],
-        }
-    }
-
-    fn room_units(room: &Slots<Cashflow>) -> &[Cashflow] {
-        &room.units
-    }
-
-    fn room_unit(room: &Slots<Cashflow>, i: usize) -> Cashflow {
-        room.units[i]
-    }
-
-    fn room_put(room: &mut Slots<Cashflow>, i: usize, unit: Cashflow) {
-        room.units[i] = unit;
-    }
 }
 
 impl WireUnit for Cashflow {
     const KIND: u8 = 2;
 
+    ghost KIND = { 2 };
+
     const WIDTH: usize = 12;
 
-    ghost kind = { 2 };
+    ghost WIDTH = { 12 };
 
-    ghost width = { 12 };
+    ghost code = { cashflow_code };
 
-    ghost written = { cashflow_bytes };
-
-    ghost parsed = { cashflow_of };
-
-    ghost length_written = { Prim.search rules };
-
-    ghost parsed_written = { λ x. of_bytes x };
-
-    ghost written_parsed = { λ bs long bytes. bytes_of bs long bytes };
-
-    ghost frame_fits = { Prim.search rules };
-
-    fn kind_number() -> u8 {
-        Self::KIND
-    }
-
-    fn byte_width() -> usize {
-        Self::WIDTH
-    }
+    ghost laws = { cashflow_laws };
 
     fn write(self, out: &mut [u8]) {
         out[0..4].copy_from_slice(&self.day.to_be_bytes());
@@ -78,13 +39,12 @@ impl WireUnit for Cashflow {
     }
 
     fn read(bytes: &[u8]) -> Cashflow {
-        let day = [bytes[0], bytes[1], bytes[2], bytes[3]];
-        let amount = [
-            bytes[4], bytes[5], bytes[6], bytes[7], bytes[8], bytes[9], bytes[10], bytes[11],
-        ];
+        let (day, amount) = bytes.split_at(4);
+        let day = day.first_chunk().unwrap();
+        let amount = amount.first_chunk().unwrap();
         Cashflow {
-            day: u32::from_be_bytes(day),
-            amount: i64::from_be_bytes(amount),
+            day: u32::from_be_bytes(*day),
+            amount: i64::from_be_bytes(*amount),
         }
     }
 }

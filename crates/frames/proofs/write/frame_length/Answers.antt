@@ -1,37 +1,30 @@
 use Rattle.std.proofs.Common.{◌-◌, ◌≤◌, take, arith}
 use Rattle.deltas.specs.Check.{parts_of}
 use Rattle.deltas.proofs.Checks.{front_is}
-use Rattle.frames.proofs.Codes.{Codes}
 use Rattle.frames.proofs.RoundTrips.{frame_fits}
 use Rattle.frames.proofs.Emitting.{length_turn, length_last, lawful_from, length_ok}
-use Rattle.frames.proofs.write.frame_length.Given as given
 use Rattle.frames.proofs.write.frame_length.Goals as goal
-
-codes : (g : given.Over) → Codes g.U.WireUnit
-codes g =
-    let met = g.met.U.WireUnit in
-    record { length_written = met.length_written; parsed_written = met.parsed_written; written_parsed = met.written_parsed; frame_fits = met.frame_fits }
 
 pub overflow_add-length : goal.overflow_add-length
 overflow_add-length g c =
     let d = parts_of c.args.delta.now in
     let l = lawful_from d c.in_ok-check.field-0 c.in_ok-check.ensures in
-    let t = length_turn g.U.WireUnit (codes g) d (take (d.head.instructions - 0) d.table) c.loop-instruction.length c.extent_of-length.result c.byte_width-width.result c.loop-instruction.instruction-index _ (front_is d.head.instructions d.table) l (omega arith) c.byte_width-width.ensures c.extent_of-length.ensures c.loop-instruction.invariant in
+    let t = length_turn g.U.WireUnit.code g.met.U.WireUnit.laws d (take (d.head.instructions - 0) d.table) c.loop-instruction.length c.extent_of-length.result c.WIDTH-width.result c.loop-instruction.instruction-index _ (front_is d.head.instructions d.table) l (omega arith) c.WIDTH-width.ensures c.extent_of-length.ensures c.loop-instruction.invariant in
     let b : d.head.target ≤ 65535 = grind arith in
-    let f = frame_fits g.U.WireUnit (codes g) d l b in
+    let f = frame_fits g.U.WireUnit.code g.met.U.WireUnit.laws d l b in
     record { fits = omega arith }
 
 pub loop-instruction-preserved : goal.loop-instruction-preserved
 loop-instruction-preserved g c =
     let d = parts_of c.args.delta.now in
     let l = lawful_from d c.in_ok-check.field-0 c.in_ok-check.ensures in
-    (length_turn g.U.WireUnit (codes g) d (take (d.head.instructions - 0) d.table) c.loop-instruction.length c.extent_of-length.result c.byte_width-width.result c.loop-instruction.instruction-index _ (front_is d.head.instructions d.table) l (omega arith) c.byte_width-width.ensures c.extent_of-length.ensures c.loop-instruction.invariant).0
+    (length_turn g.U.WireUnit.code g.met.U.WireUnit.laws d (take (d.head.instructions - 0) d.table) c.loop-instruction.length c.extent_of-length.result c.WIDTH-width.result c.loop-instruction.instruction-index _ (front_is d.head.instructions d.table) l (omega arith) c.WIDTH-width.ensures c.extent_of-length.ensures c.loop-instruction.invariant).0
 
 pub returns : goal.returns
 returns g c =
     let d = parts_of c.args.delta.now in
     let l = lawful_from d c.in_ok-check.field-0 c.in_ok-check.ensures in
-    let e = length_last g.U.WireUnit (codes g) d (take (d.head.instructions - 0) d.table) c.loop-instruction.length c.loop-instruction.instruction-index _ (omega arith) c.loop-instruction.invariant in
+    let e = length_last g.U.WireUnit.code g.met.U.WireUnit.laws d (take (d.head.instructions - 0) d.table) c.loop-instruction.length c.loop-instruction.instruction-index _ (omega arith) c.loop-instruction.invariant in
     let b : d.head.target ≤ 65535 = grind arith in
-    let f = frame_fits g.U.WireUnit (codes g) d l b in
-    record { answer = length_ok g.U.WireUnit d c.loop-instruction.length l e; fits = omega arith }
+    let f = frame_fits g.U.WireUnit.code g.met.U.WireUnit.laws d l b in
+    record { answer = length_ok g.U.WireUnit.code d c.loop-instruction.length l e; fits = omega arith }

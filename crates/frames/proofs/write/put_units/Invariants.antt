@@ -6,5 +6,5 @@ use Rattle.frames.proofs.write.put_units.Given as goal
 -- the units that are left give the output
 abbrev pub invariant-loop-unit : goal.invariant-loop-unit
 invariant-loop-unit g l =
-    (sets l.out l.end (flat_map g.U.WireUnit.written (drop l.unit-index l.units)) ≡ sets l.initial.out l.at (flat_map g.U.WireUnit.written l.units))
-    × (l.end + length (flat_map g.U.WireUnit.written (drop l.unit-index l.units)) ≡ l.at + length (flat_map g.U.WireUnit.written l.units))
+    (sets l.out l.end (flat_map g.U.WireUnit.code.written (drop l.unit-index l.units)) ≡ sets l.initial.out l.at (flat_map g.U.WireUnit.code.written l.units))
+    × (l.end + length (flat_map g.U.WireUnit.code.written (drop l.unit-index l.units)) ≡ l.at + length (flat_map g.U.WireUnit.code.written l.units))

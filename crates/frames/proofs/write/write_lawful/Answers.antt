@@ -11,15 +11,15 @@ use Rattle.frames.proofs.write.write_lawful.Goals as goal
 pub put_instructions-requires : goal.put_instructions-requires
 put_instructions-requires g c =
     let d = parts_of c.args.delta.now in
-    let s = length_says g.U.WireUnit d c.args.size c.requires.size in
-    let n = length_frame g.U.WireUnit d in
-    let m = ap length (ap (λ us. instructions_bytes g.U.WireUnit us (take (d.head.instructions - 0) d.table)) (front_is d.head.inserted d.units) ∙ ap (instructions_bytes g.U.WireUnit (take d.head.inserted d.units)) (front_is d.head.instructions d.table)) in
+    let s = length_says g.U.WireUnit.code d c.args.size c.requires.size in
+    let n = length_frame g.U.WireUnit.code d in
+    let m = ap length (ap (λ us. instructions_bytes g.U.WireUnit.code us (take (d.head.instructions - 0) d.table)) (front_is d.head.inserted d.units) ∙ ap (instructions_bytes g.U.WireUnit.code (take d.head.inserted d.units)) (front_is d.head.instructions d.table)) in
     record { fits = ready d 65535 s.0 c.requires.source; room = omega arith }
 
 pub returns : goal.returns
 returns g c =
     let d = parts_of c.args.delta.now in
-    let s = length_says g.U.WireUnit d c.args.size c.requires.size in
+    let s = length_says g.U.WireUnit.code d c.args.size c.requires.size in
     let p = passed d s.0 in
-    let long = length_frame g.U.WireUnit d in
-    emitted g.U.WireUnit d _ _ _ _ _ c.args.out.now _ _ (omega (arith, c.requires.fits, s.1, long)) c.kind_number-kind.ensures (omega (arith, p.few)) (front_is d.head.inserted d.units) (front_is d.head.instructions d.table) (omega (arith, s.1)) c.put_opening.ensures c.put_instructions.ensures
+    let long = length_frame g.U.WireUnit.code d in
+    emitted g.U.WireUnit.code d _ _ _ _ _ c.args.out.now _ _ (omega (arith, c.requires.fits, s.1, long)) c.KIND-kind.ensures (omega (arith, p.few)) (front_is d.head.inserted d.units) (front_is d.head.instructions d.table) (omega (arith, s.1)) c.put_opening.ensures c.put_instructions.ensures

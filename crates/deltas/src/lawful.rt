@@ -1,0 +1,18 @@
+// Deltas that passed the check.
+ghost use Rattle.std.specs.Prelude.{◌≡◌, length};
+ghost use Rattle.deltas.specs.Check.{parts, Lawful};
+
+use crate::delta::Head;
+use crate::instruction::Instruction;
+
+// A lawful delta over its own entries alone.
+#[derive(Drop)]
+pub struct LawfulDelta<'i, 'u, U> {
+    pub head: Head,
+    pub instructions: &'i [Instruction],
+    pub units: &'u [U],
+    // it has as many entries as its head says, and passes the check
+    pub ghost count: { length instructions.now ≡ head.instructions },
+    pub ghost inserted: { length units.now ≡ head.inserted },
+    pub ghost lawful: { Lawful (parts head instructions.now units.now) },
+}
