@@ -7,3 +7,4 @@ pub mod Composing
 pub mod Theorems
 pub mod Replacing
 pub mod Outputs
+pub mod Own

@@ -1,18 +1,20 @@
 -- The places that instructions give, one by one.
-use Rattle.std.proofs.Common.{◌≡◌, ℕ, zero, suc, ◌+◌, ◌-◌, ◌<◌, ◌≤◌, Bool, true, not, ◌&&◌, List, [], ◌∷◌, ◌++◌, map, length, get_or, take, drop, sym, refl, ap, ◌∙◌, arith, take-add}
+use Rattle.std.proofs.Common.{◌≡◌, ℕ, zero, suc, ◌+◌, ◌-◌, ◌<◌, ◌≤◌, List, [], ◌∷◌, ◌++◌, map, min, length, get_or, take, drop, sym, refl, ap, ◌∙◌, subst, arith, take-add}
 use lib.Seq.{take-append-le, drop-append-le, drop-append-add}
-use Rattle.std.proofs.lemmas.List.{take_more, take-take, drop-take, drop-drop, take-map, drop-map, length-drop}
+use Rattle.std.proofs.lemmas.List.{take_all, get_or-drop, take_more, take-take, drop-take, drop-drop, take-map, drop-map, length-drop}
 use Rattle.std.proofs.ByRecursion.{All-get_or}
 use Rattle.std.specs.List.{AllByRecursion}
 use Rattle.deltas.specs.declared.instruction.Instruction.{Instruction}
 use Rattle.deltas.specs.declared.instruction.Op.{Op}
 use Rattle.deltas.specs.declared.instruction.Op.TheVariants.{Copy, Insert}
+use Rattle.deltas.specs.declared.lawful.LawfulDelta.{LawfulDelta}
 use Rattle.deltas.specs.Instructions.{blank_instruction}
-use Rattle.combining.specs.Joining.{goes_on, cut}
-use Rattle.combining.specs.Normal.{all_apart}
-use Rattle.deltas.specs.Origins.{copied, inserted, copies, given, piece, origins}
+use Rattle.deltas.specs.LawfulDeltas.{lawful_parts}
+use Rattle.combining.specs.Joining.{cut}
+use Rattle.deltas.specs.Origins.{copied, inserted, copies, given, piece, origins, origins_of}
 use Rattle.deltas.specs.Places.{total, Inside, Fits}
 use Rattle.combining.specs.Steps.{place_at, Located}
+use Rattle.combining.proofs.Own.{own_origins, own_total, own_few, own_fits}
 use Rattle.combining.proofs.Runs.{total_append}
 use Rattle.deltas.proofs.Sound.{length_piece}
 
@@ -22,6 +24,10 @@ total_more is k l =
     let i = get_or is k blank_instruction in
     let e = ap total (take_more is k blank_instruction l) ∙ total_append (take k is) (i ∷ []) in
     omega arith
+
+-- what stands in the rest of a list, from n on, as `&xs[n..]` is read
+pub rest_at : {X : Type 0} (xs : List X) (n k : ℕ) (d : X) → get_or (take (length xs - n) (drop n xs)) k d ≡ get_or xs (n + k) d
+rest_at xs n k d = ap (λ ys. get_or ys k d) (take_all (length xs - n) (drop n xs) (rw length-drop (omega arith))) ∙ get_or-drop n xs k d
 
 -- a front gives no more places than the whole
 pub total_front : (is : List Instruction) (k : ℕ) → total (take k is) ≤ total is
@@ -34,6 +40,26 @@ pub total_reaches : (is : List Instruction) (k : ℕ) → total (take k is) < to
 total_reaches [] k h = absurd (omega (arith, total_front [] k))
 total_reaches (i ∷ is) zero h = omega arith
 total_reaches (i ∷ is) (suc k) h = let r : total (take k is) < total is = omega arith in omega (arith, total_reaches is k r)
+
+-- the instruction at an index of a lawful delta: it fits a source of as many units, or more, it gives its length of
+-- places, and these are the next ones
+pub record Next {U : Type 0} (d : LawfulDelta U) (k : ℕ) : Type 0 where
+  pub fits : (s : ℕ) → d.head.source ≤ s → Fits s (length d.units.now) (get_or d.instructions.now k blank_instruction)
+  pub long : length (piece d.units.now (get_or d.instructions.now k blank_instruction)) ≡ (get_or d.instructions.now k blank_instruction).length
+  pub room : total d.instructions.now - total (take k d.instructions.now) ≡ (get_or d.instructions.now k blank_instruction).length + (total d.instructions.now - total (take (k + 1) d.instructions.now))
+
+pub next : {U : Type 0} (d : LawfulDelta U) (k : ℕ) → k < length d.instructions.now → Next d k
+next d k l =
+    let is = d.instructions.now in
+    let m = length d.units.now in
+    let fits : (s : ℕ) → d.head.source ≤ s → Fits s m (get_or is k blank_instruction) = λ s h. All-get_or (Fits s m) is k blank_instruction l (own_fits d s h) in
+    let more = total_more is k l in
+    let front = total_front is (k + 1) in
+    record {
+      fits = fits;
+      long = length_piece d.units.now (get_or is k blank_instruction) 65535 m (fits 65535 d.source) (omega arith);
+      room = omega arith;
+    }
 
 -- the places of a copy from the k-th on
 copies_from : (U : Type 0) (p n k : ℕ) → k ≤ n → drop k (copies {U = U} p n) ≡ copies (p + k) (n - k)
@@ -110,24 +136,53 @@ inside_cut s m Insert p n k j l h = omega arith
 pub fits_cut : (s m : ℕ) (i : Instruction) (k j : ℕ) → 0 < j → k + j ≤ i.length → Fits s m i → Fits s m (cut i k j)
 fits_cut s m i k j p l h = (p, inside_cut s m i.op i.from i.length k j l h.1)
 
+-- n places of a lawful delta from a place on, given by one instruction over its units
+pub record Part {U : Type 0} (d : LawfulDelta U) (place n : ℕ) (i : Instruction) : Type 0 where
+  pub fits : Fits 65535 (length d.units.now) i
+  pub gives : piece d.units.now i ≡ take n (drop place (origins_of (lawful_parts d)))
+  pub long : length (piece d.units.now i) ≡ n
+
+-- the instruction at an index of those from `first` on, as a loop over them finds it
+abbrev pub next_of : {U : Type 0} → LawfulDelta U → ℕ → ℕ → Instruction
+next_of d first k = get_or (take (length d.instructions.now - first) (drop first d.instructions.now)) k blank_instruction
+
+-- one turn of a loop that takes w places of a lawful delta from a place on: it takes the n that the found instruction
+-- gives from there on, or as many as are wanted
+pub record Turn {U : Type 0} (d : LawfulDelta U) (place first k offset w n : ℕ) : Type 0 where
+  pub cuts : (next_of d first k).from + offset ≤ 65535
+  pub part : (i : Instruction) → i ≡ cut (next_of d first k) offset n → Part d place n i
+  pub further : n < w → place + w ≤ d.head.target → Located d.instructions.now (place + n) (first + (k + 1)) 0
+
+pub turn : {U : Type 0} (d : LawfulDelta U) (place first k offset w n : ℕ) → Located d.instructions.now place (first + k) offset → 0 < w → n ≡ min w ((next_of d first k).length - offset) → Turn d place first k offset w n
+turn d place first k offset w n at some e =
+    let is = d.instructions.now in
+    let m = length d.units.now in
+    let i = get_or is (first + k) blank_instruction in
+    let here = rest_at is first k blank_instruction in
+    let long_here = ap (λ j. j.length) here in
+    let from_here = ap (λ j. j.from) here in
+    let all = own_fits d 65535 d.source in
+    let fits = All-get_or (Fits 65535 m) is (first + k) blank_instruction at.within all in
+    let inside : offset + n ≤ i.length = omega (arith, at.inside) in
+    let step : first + k + 1 ≡ first + (k + 1) = omega arith in
+    record {
+      cuts = omega (arith, fits_end m i (own_few d) fits, at.inside);
+      part = λ j c.
+          let same : j ≡ cut i offset n = c ∙ ap (λ x. cut x offset n) here in
+          let cut_fits : Fits 65535 m j = subst (λ x. Fits 65535 m x) (sym same) (fits_cut 65535 m i offset n (omega (arith, at.inside)) inside fits) in
+          record {
+            fits = cut_fits;
+            gives = ap (piece d.units.now) same
+                ∙ piece_at 65535 m d.units.now is (first + k) offset n all (omega arith) at.within inside
+                ∙ ap (λ q. take n (drop q (origins d.units.now is))) (sym at.at)
+                ∙ ap (λ os. take n (drop place os)) (sym (own_origins d));
+            long = length_piece d.units.now j 65535 m cut_fits (omega arith) ∙ ap (λ x. x.length) same;
+          };
+      further = λ more end.
+          subst (λ x. Located is (place + n) x 0) step
+          (located_next 65535 m is place (first + k) offset n all at (omega (arith, at.inside)) (omega (arith, own_total d)));
+    }
+
 -- some places, and some more
 pub taken_more : {X : Type 0} (xs : List X) (p k n : ℕ) → take k (drop p xs) ++ take n (drop (p + k) xs) ≡ take (k + n) (drop p xs)
 taken_more xs p k n = ap (λ ys. take k (drop p xs) ++ take n ys) (sym (drop-drop k p xs)) ∙ sym (take-add k n (drop p xs))
-
--- fewer than two instructions are apart
-pub apart_few : (is : List Instruction) → length is < 2 → all_apart is ≡ true
-apart_few [] h = refl
-apart_few (a ∷ []) h = refl
-apart_few (a ∷ b ∷ is) h = absurd (omega arith)
-
--- the first two of the instructions, and the others
-apart_window : (is w : List Instruction) (n : ℕ) → n ≡ 2 → n ≤ length is → w ≡ take n is → all_apart is ≡ (not (goes_on (get_or w 0 blank_instruction) (get_or w 1 blank_instruction)) && all_apart (drop 1 is))
-apart_window [] w n e l q = absurd (omega arith)
-apart_window (a ∷ []) w n e l q = absurd (omega arith)
-apart_window (a ∷ b ∷ is) w n e l q =
-    let p : w ≡ a ∷ b ∷ [] = q ∙ ap (λ m. take m (a ∷ b ∷ is)) e in
-    ap (λ v. not (goes_on (get_or v 0 blank_instruction) (get_or v 1 blank_instruction)) && all_apart (b ∷ is)) (sym p)
-
--- and one turn of the test: the first two go on, or only the others count
-pub apart_turn : (is w : List Instruction) (n : ℕ) (b : Bool) → n ≡ 2 → n ≤ length is → w ≡ take n is → b ≡ goes_on (get_or w 0 blank_instruction) (get_or w 1 blank_instruction) → all_apart is ≡ (not b && all_apart (drop 1 is))
-apart_turn is w n b e l q t = apart_window is w n e l q ∙ ap (λ x. not x && all_apart (drop 1 is)) (sym t)

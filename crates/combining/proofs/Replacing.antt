@@ -1,6 +1,7 @@
-use Rattle.std.proofs.Common.{◌≡◌, ℕ, ◌+◌, ◌-◌, ◌<◌, ◌≤◌, leb, List, [], ◌∷◌, ◌++◌, length, take, drop, sym, refl, ap, ◌∙◌, subst, append_assoc, append-nil, arith, length-drop, take_all}
+use Rattle.std.proofs.Common.{◌≡◌, ℕ, ◌+◌, ◌-◌, ◌<◌, ◌≤◌, leb, List, [], ◌∷◌, ◌++◌, length, take, drop, sym, refl, ap, ◌∙◌, subst, append-nil, arith, length-drop, take_all}
 use lib.Seq.{take-nil, drop-nil, take-append-le, take-append-add, drop-append-le, drop-append-add}
-use Rattle.std.specs.List.{flat_map, AllByRecursion}
+use Rattle.std.specs.List.{AllByRecursion}
+use Rattle.std.proofs.lemmas.Grind.{flat_map-append}
 use Rattle.std.proofs.lemmas.List.{map-append}
 use Rattle.std.proofs.lemmas.Bool.{cond_both, leb-true, leb-false}
 use Rattle.deltas.specs.declared.instruction.Instruction.{Instruction}
@@ -22,10 +23,6 @@ use Rattle.combining.proofs.Through.{through_inserted, through_copies}
 use Rattle.combining.proofs.Theorems.{length_units, length_target}
 
 -- Replace gives the origins that taking two deltas together does.
-
-joined_append : {X A : Type 0} (f : X → List A) (xs ys : List X) → flat_map f (xs ++ ys) ≡ flat_map f xs ++ flat_map f ys
-joined_append f [] ys = refl
-joined_append f (x ∷ xs) ys = ap (λ zs. f x ++ zs) (joined_append f xs ys) ∙ sym (append_assoc (f x) (flat_map f xs) (flat_map f ys))
 
 -- n places of a list from p on, where they lie past a front of l places, all inside it, or partly
 module _ {X : Type 0} (front rest : List X) (l p n : ℕ) (e : length front ≡ l) where
@@ -77,7 +74,7 @@ module _ {U : Type 0} (s m : ℕ) (us vs : List U) (es : List Instruction) (f : 
   replaced_origins : (k : ℕ) (is : List Instruction) → AllByRecursion (Fits (length (origins us es)) k) is → taken_origins us vs (replaced es is) ≡ through (origins us es) (origins vs is)
   replaced_origins k [] h = refl
   replaced_origins k (i ∷ is) h =
-      joined_append (λ t. piece (units_by us vs t.side) t.step) (replaced_one es i.op i) (replaced es is) ∙
+      flat_map-append (λ t. piece (units_by us vs t.side) t.step) (replaced_one es i.op i) (replaced es is) ∙
       ap (λ os. os ++ taken_origins us vs (replaced es is)) (replaced_one_origins k i.op i.from i.length h.0.1) ∙
       ap (λ os. through (origins us es) (piece vs i) ++ os) (replaced_origins k is h.1) ∙
       sym (map-append (origin_through (origins us es)) (piece vs i) (origins vs is))

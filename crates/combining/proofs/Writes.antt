@@ -1,17 +1,17 @@
 -- What the functions that write the output tables leave in them.
-use Rattle.std.proofs.Common.{◌≡◌, ℕ, ◌+◌, ◌-◌, ◌<◌, ◌≤◌, true, false, List, [], ◌∷◌, ◌++◌, map, length, get_or, take, drop, set, sym, refl, ap, ◌∙◌, subst, arith}
+use Rattle.std.proofs.Common.{◌≡◌, ℕ, zero, suc, ◌+◌, ◌-◌, ◌<◌, ◌≤◌, true, false, List, [], ◌∷◌, ◌++◌, map, length, get_or, take, drop, set, sym, refl, ap, ◌∙◌, subst, arith}
 use Rattle.std.proofs.lemmas.List.{append_assoc, append-nil, take_more, take_more_set, length-take, length-drop, length-map, length-append}
 use Rattle.std.proofs.lemmas.Bool.{cond-true, cond-false}
 use Rattle.deltas.specs.declared.instruction.Instruction.{Instruction}
 use Rattle.deltas.specs.declared.instruction.Op.{Op}
 use Rattle.deltas.specs.declared.instruction.Op.TheVariants.{Copy, Insert}
-use Rattle.combining.specs.declared.write.Written.{Written}
+use Rattle.combining.specs.declared.write.Output.{Output}
 use Rattle.deltas.specs.Instructions.{instruction, blank_instruction}
 use Rattle.combining.specs.Joining.{goes_on, longer}
 use Rattle.deltas.specs.Origins.{Origin, inserted, copies, given, piece, inserts}
 use Rattle.combining.specs.Normal.{extend, runs_after}
 use Rattle.deltas.specs.Places.{total, Inside}
-use Rattle.combining.specs.Steps.{Space, Appended}
+use Rattle.combining.specs.Steps.{written_instructions, written_units, Space, SameTables, Appended}
 use Rattle.combining.proofs.Runs.{runs_append, inserts_append, inserts_copies, runs_copies, inserts_map, runs_inserted, total_append, total_runs, length_inserts}
 use Rattle.deltas.proofs.Sound.{length_copies}
 
@@ -36,20 +36,17 @@ last_length out count p l =
     omega arith
 
 -- the first run
-pub emit_first : (out : List Instruction) (count : ℕ) (next : Instruction) → count < length out → count ≡ 0 → take 1 (set out 0 next) ≡ extend (take count out) next
-emit_first out count next l z =
-    let h : 0 < length out = omega arith in
-    take_more_set out 0 next h ∙ ap (λ n. extend (take n out) next) (sym z)
+pub emit_first : (out : List Instruction) (count : ℕ) (next : Instruction) → count < length out → count ≤ 0 → take (count + 1) (set out count next) ≡ extend (take count out) next
+emit_first out zero next l z = take_more_set out 0 next l
+emit_first out (suc count) next l z = absurd (omega arith)
 
 -- the last run grows
-pub emit_grown : (out : List Instruction) (count : ℕ) (next x : Instruction) → 0 < count → count ≤ length out → goes_on (get_or out (count - 1) blank_instruction) next ≡ true → x ≡ longer (get_or out (count - 1) blank_instruction) next.length → take count (set out (count - 1) x) ≡ extend (take count out) next
-emit_grown out count next x p l t e =
+pub emit_grown : (out : List Instruction) (count : ℕ) (next : Instruction) → 0 < count → count ≤ length out → goes_on (get_or out (count - 1) blank_instruction) next ≡ true → take count (set out (count - 1) (longer (get_or out (count - 1) blank_instruction) next.length)) ≡ extend (take count out) next
+emit_grown out count next p l t =
     let a = get_or out (count - 1) blank_instruction in
     let s : count - 1 + 1 ≡ count = omega arith in
-    let h : count - 1 < length out = omega arith in
-    ap (λ n. take n (set out (count - 1) x)) (sym s)
-    ∙ take_more_set out (count - 1) x h
-    ∙ ap (λ y. take (count - 1) out ++ y ∷ []) e
+    ap (λ n. take n (set out (count - 1) (longer a next.length))) (sym s)
+    ∙ take_more_set out (count - 1) (longer a next.length) (omega arith)
     ∙ ap (λ js. take (count - 1) out ++ js) (sym (cond-true (goes_on a next) _ _ t))
     ∙ sym (extend_push (take (count - 1) out) a next)
     ∙ ap (λ is. extend is next) (sym (last_apart out count p l))
@@ -66,76 +63,87 @@ emit_new out count next p l t =
     ∙ sym (extend_push (take (count - 1) out) a next)
     ∙ ap (λ is. extend is next) (sym (last_apart out count p h))
 
-abbrev pub written : ℕ → ℕ → Written
-written i n = record { instructions = i; inserted = n }
-
-append_copy_at : {U : Type 0} (us : List U) (out out' : List Instruction) (w : Written) (r p n : ℕ) → 0 < n → take r out' ≡ extend (take w.instructions out) (instruction Copy p n) → r ≤ w.instructions + 1 → Appended {U = U} (copies p n) out us w out' us (written r w.inserted)
-append_copy_at {U} us out out' w r p n h t b =
-    record {
-      instructions = t ∙ sym (runs_copies U (take w.instructions out) w.inserted p n h);
-      units = sym (ap (λ vs. take w.inserted us ++ vs) (inserts_copies U p n) ∙ append-nil (take w.inserted us));
-      count = omega (arith, length_copies U p n);
-      inserted = omega (arith, ap length (inserts_copies U p n));
-    }
-
--- a copy was appended
-pub append_copy : {U : Type 0} (source us : List U) (out out' : List Instruction) (w : Written) (r : ℕ) (i : Instruction) → i.op ≡ Copy → 0 < i.length → take r out' ≡ extend (take w.instructions out) i → r ≤ w.instructions + 1 → Appended (piece source i) out us w out' us (written r w.inserted)
-append_copy source us out out' w r i e h t b =
-    subst (λ o. take r out' ≡ extend (take w.instructions out) (instruction o i.from i.length) → Appended (given source o i.from i.length) out us w out' us (written r w.inserted))
-    (sym e) (λ s. append_copy_at us out out' w r i.from i.length h s b) t
-
-append_insert_at : {U : Type 0} (us us' vs : List U) (out out' : List Instruction) (w : Written) (r : ℕ) → 0 < length vs → take r out' ≡ extend (take w.instructions out) (instruction Insert w.inserted (length vs)) → r ≤ w.instructions + 1 → take (w.inserted + length vs) us' ≡ take w.inserted us ++ vs → Appended (map inserted vs) out us w out' us' (written r (w.inserted + length vs))
-append_insert_at us us' vs out out' w r h t b u =
-    record {
-      instructions = t ∙ sym (runs_inserted (take w.instructions out) w.inserted vs h);
-      units = u ∙ ap (λ xs. take w.inserted us ++ xs) (sym (inserts_map vs));
-      count = omega (arith, length-map vs inserted);
-      inserted = omega (arith, ap length (inserts_map vs));
-    }
-
--- an insert was appended
-pub append_insert : {U : Type 0} (source us us' : List U) (out out' : List Instruction) (w : Written) (r : ℕ) (i : Instruction) → i.op ≡ Insert → 0 < i.length → i.from + i.length ≤ length source → take r out' ≡ extend (take w.instructions out) (instruction Insert w.inserted i.length) → r ≤ w.instructions + 1 → take (w.inserted + i.length) us' ≡ take w.inserted us ++ take i.length (drop i.from source) → Appended (piece source i) out us w out' us' (written r (w.inserted + i.length))
-append_insert source us us' out out' w r i e h l t b u =
-    let vs = take i.length (drop i.from source) in
-    let n : length vs ≡ i.length = omega (arith, length-take i.length (drop i.from source), length-drop i.from source) in
-    let p : 0 < length vs = omega arith in
-    let a = append_insert_at us us' vs out out' w r p (t ∙ ap (λ m. extend (take w.instructions out) (instruction Insert w.inserted m)) (sym n)) b (ap (λ m. take (w.inserted + m) us') n ∙ u) in
-    subst (λ o. Appended (given source o i.from i.length) out us w out' us' (written r (w.inserted + i.length))) (sym e)
-    (subst (λ m. Appended (map inserted vs) out us w out' us' (written r (w.inserted + m))) n a)
-
--- one part was appended after another
-pub appended_then : {U : Type 0} (os ps : List (Origin U)) (out out' out'' : List Instruction) (us us' us'' : List U) (w w' w'' : Written) → Appended os out us w out' us' w' → Appended ps out' us' w' out'' us'' w'' → Appended (os ++ ps) out us w out'' us'' w''
-appended_then os ps out out' out'' us us' us'' w w' w'' a b =
-    record {
-      instructions = b.instructions ∙ ap (λ is. runs_after is w'.inserted ps) a.instructions ∙ ap (λ k. runs_after (runs_after (take w.instructions out) w.inserted os) k ps) a.inserted ∙ sym (runs_append (take w.instructions out) w.inserted os ps);
-      units = b.units ∙ ap (λ vs. vs ++ inserts ps) a.units ∙ append_assoc (take w.inserted us) (inserts os) (inserts ps) ∙ ap (λ vs. take w.inserted us ++ vs) (sym (inserts_append os ps));
-      count = omega (arith, length-append os ps, a.count, b.count);
-      inserted = omega (arith, a.inserted, b.inserted, ap length (inserts_append os ps), length-append (inserts os) (inserts ps));
-    }
-
--- nothing was appended
-pub appended_none : {U : Type 0} (out : List Instruction) (us : List U) (w : Written) → Appended [] out us w out us w
-appended_none out us w = record { instructions = refl; units = sym (append-nil (take w.inserted us)); count = omega arith; inserted = omega arith }
-
--- the room that is left after some places of those that there was room for
-pub space_left : {U : Type 0} (os : List (Origin U)) (out out' : List Instruction) (us us' : List U) (w w' : Written) (n m : ℕ) → n ≡ length os + m → length out' ≡ length out → length us' ≡ length us → Appended os out us w out' us' w' → Space out us w n → Space out' us' w' m
-space_left os out out' us us' w w' n m e i u a s =
-    let t = ap total a.instructions ∙ total_runs (take w.instructions out) w.inserted os in
-    let k = length_inserts os in
-    record {
-      instructions = omega (arith, a.count, s.instructions);
-      inserted = omega (arith, a.inserted, s.inserted);
-      places = omega (arith, t, s.places);
-      numbers = omega (arith, a.inserted, s.numbers);
-    }
-
 pub inside_insert : (s m p n : ℕ) (o : Op) → o ≡ Insert → Inside s m o p n → p + n ≤ m
 inside_insert s m p n o e h = subst (λ q. Inside s m q p n) e h
 
 pub inside_copy : (s m p n : ℕ) (o : Op) → o ≡ Copy → Inside s m o p n → p + n ≤ s
 inside_copy s m p n o e h = subst (λ q. Inside s m q p n) e h
 
--- room for fewer places
-pub space_less : {U : Type 0} (out : List Instruction) (us : List U) (w : Written) (n m : ℕ) → m ≤ n → Space out us w n → Space out us w m
-space_less out us w n m l s =
-    record { instructions = omega (arith, s.instructions); inserted = omega (arith, s.inserted); places = omega (arith, s.places); numbers = omega (arith, s.numbers) }
+module _ {U : Type 0} where
+  -- a copy was appended
+  append_copy_at : (o o' : Output U) (p n : ℕ) → 0 < n → SameTables o o' → written_instructions o' ≡ extend (written_instructions o) (instruction Copy p n) → o'.count ≤ o.count + 1 → written_units o' ≡ written_units o → o'.inserted ≡ o.inserted → Appended (copies p n) o o'
+  append_copy_at o o' p n h same t b u e =
+      record {
+        tables = same;
+        instructions = t ∙ sym (runs_copies U (written_instructions o) o.inserted p n h);
+        units = u ∙ sym (ap (λ vs. written_units o ++ vs) (inserts_copies U p n) ∙ append-nil (written_units o));
+        count = omega (arith, length_copies U p n);
+        inserted = omega (arith, ap length (inserts_copies U p n));
+      }
+
+  pub append_copy : (source : List U) (o o' : Output U) (i : Instruction) → i.op ≡ Copy → 0 < i.length → SameTables o o' → written_instructions o' ≡ extend (written_instructions o) i → o'.count ≤ o.count + 1 → written_units o' ≡ written_units o → o'.inserted ≡ o.inserted → Appended (piece source i) o o'
+  append_copy source o o' i e h same t b u n =
+      subst (λ p. written_instructions o' ≡ extend (written_instructions o) (instruction p i.from i.length) → Appended (given source p i.from i.length) o o')
+      (sym e) (λ s. append_copy_at o o' i.from i.length h same s b u n) t
+
+  -- an insert was appended
+  append_insert_at : (vs : List U) (o o' : Output U) → 0 < length vs → SameTables o o' → written_instructions o' ≡ extend (written_instructions o) (instruction Insert o.inserted (length vs)) → o'.count ≤ o.count + 1 → written_units o' ≡ written_units o ++ vs → o'.inserted ≡ o.inserted + length vs → Appended (map inserted vs) o o'
+  append_insert_at vs o o' h same t b u n =
+      record {
+        tables = same;
+        instructions = t ∙ sym (runs_inserted (written_instructions o) o.inserted vs h);
+        units = u ∙ ap (λ xs. written_units o ++ xs) (sym (inserts_map vs));
+        count = omega (arith, length-map vs inserted);
+        inserted = omega (arith, ap length (inserts_map vs));
+      }
+
+  pub append_insert : (source : List U) (o o' : Output U) (i : Instruction) → i.op ≡ Insert → 0 < i.length → i.from + i.length ≤ length source → SameTables o o' → written_instructions o' ≡ extend (written_instructions o) (instruction Insert o.inserted i.length) → o'.count ≤ o.count + 1 → written_units o' ≡ written_units o ++ take i.length (drop i.from source) → o'.inserted ≡ o.inserted + i.length → Appended (piece source i) o o'
+  append_insert source o o' i e h l same t b u n =
+      let vs = take i.length (drop i.from source) in
+      let m : length vs ≡ i.length = omega (arith, length-take i.length (drop i.from source), length-drop i.from source) in
+      subst (λ p. Appended (given source p i.from i.length) o o') (sym e)
+      (append_insert_at vs o o' (omega arith) same (t ∙ ap (λ k. extend (written_instructions o) (instruction Insert o.inserted k)) (sym m)) b u (omega arith))
+
+  -- one part was appended after another
+  pub appended_then : {os ps : List (Origin U)} {o o' o'' : Output U} → Appended os o o' → Appended ps o' o'' → Appended (os ++ ps) o o''
+  appended_then {os} {ps} {o} {o'} a b =
+      record {
+        tables = record {
+          instructions = b.tables.instructions ∙ a.tables.instructions;
+          units = b.tables.units ∙ a.tables.units;
+          entries = b.tables.entries ∙ a.tables.entries;
+          room = b.tables.room ∙ a.tables.room;
+        };
+        instructions = b.instructions ∙ ap (λ is. runs_after is o'.inserted ps) a.instructions ∙ ap (λ k. runs_after (runs_after (written_instructions o) o.inserted os) k ps) a.inserted ∙ sym (runs_append (written_instructions o) o.inserted os ps);
+        units = b.units ∙ ap (λ vs. vs ++ inserts ps) a.units ∙ append_assoc (written_units o) (inserts os) (inserts ps) ∙ ap (λ vs. written_units o ++ vs) (sym (inserts_append os ps));
+        count = omega (arith, length-append os ps, a.count, b.count);
+        inserted = omega (arith, a.inserted, b.inserted, ap length (inserts_append os ps), length-append (inserts os) (inserts ps));
+      }
+
+  -- nothing was appended
+  pub appended_none : (o : Output U) → Appended [] o o
+  appended_none o =
+      record {
+        tables = record { instructions = refl; units = refl; entries = refl; room = refl };
+        instructions = refl;
+        units = sym (append-nil (written_units o));
+        count = omega arith;
+        inserted = omega arith;
+      }
+
+  -- the room that is left after some places of those that there was room for
+  pub space_left : {os : List (Origin U)} {o o' : Output U} (n m : ℕ) → n ≡ length os + m → Appended os o o' → Space o n → Space o' m
+  space_left {os} {o} n m e a s =
+      let t = ap total a.instructions ∙ total_runs (written_instructions o) o.inserted os in
+      let k = length_inserts os in
+      record {
+        instructions = omega (arith, a.tables.entries, a.count, s.instructions);
+        inserted = omega (arith, a.tables.room, a.inserted, s.inserted);
+        places = omega (arith, t, s.places);
+        numbers = omega (arith, a.inserted, s.numbers);
+      }
+
+  -- room for fewer places
+  pub space_less : {o : Output U} {n : ℕ} (m : ℕ) → m ≤ n → Space o n → Space o m
+  space_less m l s =
+      record { instructions = omega (arith, s.instructions); inserted = omega (arith, s.inserted); places = omega (arith, s.places); numbers = omega (arith, s.numbers) }

@@ -1,61 +1,44 @@
 // The normal form of a delta: each instruction one longest run.
-ghost use Rattle.std.specs.Prelude.{◌≡◌, true, length, IfOk, Decides};
-ghost use Rattle.std.specs.List.{AllByRecursion};
+ghost use Rattle.std.specs.Prelude.{◌≡◌, length, IfOk, Decides};
 ghost use Rattle.deltas.specs.Instructions.{blank_instruction};
 ghost use Rattle.deltas.specs.Check.{parts_of};
-ghost use Rattle.deltas.specs.Origins.{origins, origins_of, inserts};
+ghost use Rattle.deltas.specs.LawfulDeltas.{lawful_parts};
+ghost use Rattle.deltas.specs.Origins.{origins_of, inserts};
 ghost use Rattle.combining.specs.Normal.{runs, all_apart, Normal};
 ghost use Rattle.combining.specs.Outcomes.{normal_answer, left_in, Holds};
-ghost use Rattle.deltas.specs.Places.{total, Fits};
-ghost use Rattle.combining.specs.Steps.{nothing_written, Space, Appended};
+ghost use Rattle.combining.specs.Steps.{Space, Appended};
 
 use crate::joining::goes_on;
-use crate::write::{Written, append, finish};
-use deltas::{Delta, Head, Instruction, NormalFault};
+use crate::write::Output;
+use deltas::{Delta, Head, Instruction, LawfulDelta, NormalFault};
 use units::Unit;
 
-// Writes the runs of some instructions, from the start of two output tables on.
-fn write_runs<U: Unit>(
-    out: &mut [Instruction],
-    units: &mut [U],
-    instructions: &[Instruction],
-    source: &[U],
-) -> Written
-    requires fits { AllByRecursion (Fits 65535 (length source.now)) instructions.now }
-    requires space { Space out.old units.old nothing_written (total instructions.now) }
-    ensures { Appended (origins source.now instructions.now) out.old units.old nothing_written out.new units.new result }
+// Writes the runs of a delta's instructions.
+fn write_runs<U: Unit>(output: &mut Output<U>, delta: &LawfulDelta<U>)
+    requires { Space output.old delta.now.head.target }
+    ensures { Appended (origins_of (lawful_parts delta.now)) output.old output.new }
 {
-    let mut written = Written {
-        instructions: 0,
-        inserted: 0,
-    };
-    for next in instructions {
-        written = append(out, units, written, source, *next);
+    for next in delta.instructions {
+        output.append(delta.units, *next);
     }
-    written
 }
 
 // Whether no instruction goes on where the one before it ended.
 fn are_apart(instructions: &[Instruction]) -> bool
     ensures { result ≡ all_apart instructions.now }
 {
-    for pair in instructions.windows(2) {
-        if goes_on(pair[0], pair[1]) {
-            return false;
-        }
-    }
-    true
+    instructions
+        .array_windows::<2>()
+        .all(|[last, next]| !goes_on(*last, *next))
 }
 
 // Whether the delta is lawful and each of its instructions is one longest run.
 pub fn is_normal<U>(delta: &Delta<U>) -> bool
     ensures { Decides result (Normal (parts_of delta.now)) }
 {
-    let count = delta.head.instructions;
-    match delta.check() {
-        Ok(_) => are_apart(&delta.instructions[0..count]),
-        Err(_) => false,
-    }
+    delta
+        .lawful()
+        .is_ok_and(|lawful| are_apart(lawful.instructions))
 }
 
 // Writes the delta's normal form into the first entries of two output tables, and blanks into all
@@ -70,25 +53,11 @@ pub fn normalise<U: Unit>(
     ensures units { out_units.new ≡ left_in result out_units.old (inserts (origins_of (parts_of delta.now))) U.blank }
     ensures meaning { IfOk result (λ h. Holds h out_instructions.new out_units.new delta.now.head.source (origins_of (parts_of delta.now))) }
 {
-    delta.check()?;
-    let head = delta.head;
-    let need = head.target as usize;
-    if out_instructions.len() < need || out_units.len() < need {
-        return Err(NormalFault::Short(head.target));
+    let delta = delta.lawful()?;
+    let mut output = Output::new(out_instructions, out_units);
+    if output.is_short(delta.head.target) {
+        return Err(NormalFault::Short(delta.head.target));
     }
-    let count = head.instructions;
-    let own = head.inserted;
-    let written = write_runs(
-        out_instructions,
-        out_units,
-        &delta.instructions[0..count],
-        &delta.units[0..own],
-    );
-    Ok(finish(
-        out_instructions,
-        out_units,
-        written,
-        head.source,
-        head.target,
-    ))
+    write_runs(&mut output, &delta);
+    Ok(output.finish(delta.head.source, delta.head.target))
 }

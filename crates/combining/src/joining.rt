@@ -2,18 +2,14 @@
 ghost use Rattle.std.specs.Prelude.{◌≡◌, ◌+◌, ◌≤◌};
 ghost use Rattle.combining.specs.Joining.{goes_on, cut};
 
-use deltas::{Instruction, Op};
+use deltas::Instruction;
 
 // Whether `next` takes its units where those of `last` end.
 pub(crate) fn goes_on(last: Instruction, next: Instruction) -> bool
     ensures { result ≡ goes_on last next }
 {
     let end = last.from as u32 + last.length as u32;
-    match (last.op, next.op) {
-        (Op::Copy, Op::Copy) => end == next.from as u32,
-        (Op::Insert, Op::Insert) => end == next.from as u32,
-        _ => false,
-    }
+    last.op == next.op && end == next.from as u32
 }
 
 // A clone of an instruction, cut at its front by `offset`, and of `length` units.

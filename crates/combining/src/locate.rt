@@ -1,90 +1,98 @@
 // Finding the instruction that gives a place, and taking a run of places from there on.
-ghost use Rattle.std.specs.Prelude.{◌≡◌, ◌+◌, ◌-◌, ◌<◌, ◌≤◌, min, length, take, drop};
-ghost use Rattle.std.specs.List.{AllByRecursion};
-ghost use Rattle.deltas.specs.Origins.{origins};
-ghost use Rattle.deltas.specs.Places.{total, Fits};
-ghost use Rattle.combining.specs.Steps.{Space, Appended, Standing, place_at, Located};
+ghost use Rattle.std.specs.Prelude.{◌≡◌, ◌+◌, ◌<◌, ◌≤◌, take, drop};
+ghost use Rattle.deltas.specs.LawfulDeltas.{lawful_parts};
+ghost use Rattle.deltas.specs.Origins.{origins_of};
+ghost use Rattle.combining.specs.Steps.{Space, Appended, Standing, Located};
 
 use crate::joining::cut;
-use crate::write::{Written, append};
-use deltas::Instruction;
+use crate::write::Output;
+use deltas::LawfulDelta;
 use units::Unit;
 
-// An instruction, by its index, and the first place that it gives: where the next search may begin.
-#[derive(Clone, Copy)]
-pub(crate) struct Cursor {
-    pub index: usize,
-    pub place: u16,
+// A lawful delta, and where in it the next search for a place may begin.
+#[derive(Drop)]
+pub(crate) struct Cursor<'d, 'i, 'u, U> {
+    pub delta: &'d LawfulDelta<'i, 'u, U>,
+    index: usize,
+    place: u16,
+    // the place is the first that the instruction at the index gives
+    ghost standing: { Standing delta.now.instructions.now index place },
 }
 
-// The instruction that gives a place, and where the place lies inside it, searched from the cursor on.
-fn locate_from(instructions: &[Instruction], cursor: Cursor, place: u16) -> (usize, u16)
-    requires inside { place < total instructions.now }
-    requires standing { Standing instructions.now cursor.index cursor.place }
-    requires ahead { cursor.place ≤ place }
-    ensures { Located instructions.now place result.0 result.1 }
-{
-    let mut index = cursor.index;
-    let mut offset = place - cursor.place;
-    while index < instructions.len() {
-        let length = instructions[index].length;
-        if offset < length {
-            return (index, offset);
+impl<'d, 'i, 'u, U> Cursor<'d, 'i, 'u, U> {
+    // A cursor that stands at the first place.
+    pub fn new(delta: &'d LawfulDelta<'i, 'u, U>) -> Cursor<'d, 'i, 'u, U>
+        ensures same_delta { result.delta.now ≡ delta.now }
+        ensures start { result.place ≡ 0 }
+    {
+        Cursor {
+            delta,
+            index: 0,
+            place: 0,
         }
-        offset -= length;
-        index += 1;
     }
-    (index, offset)
-}
 
-// The index of the instruction that gives a place, and the place's offset inside it.
-pub(crate) fn locate(instructions: &[Instruction], cursor: Cursor, place: u16) -> (usize, u16)
-    requires inside { place < total instructions.now }
-    requires standing { Standing instructions.now cursor.index cursor.place }
-    ensures { Located instructions.now place result.0 result.1 }
-{
-    if cursor.place <= place {
-        locate_from(instructions, cursor, place)
-    } else {
-        locate_from(instructions, Cursor { index: 0, place: 0 }, place)
+    // The index of the instruction that gives a place, and the place's offset inside it, searched from
+    // the cursor on. They are a pair: a struct with the fact in it would hold the delta once more. The search
+    // goes ahead one by one, since instructions hold lengths and not places.
+    fn search(&self, place: u16) -> (usize, u16)
+        requires inside { place < self.now.delta.now.head.target }
+        requires ahead { self.now.place ≤ place }
+        ensures { Located self.now.delta.now.instructions.now place result.0 result.1 }
+    {
+        let mut offset = place - self.place;
+        for (ahead, instruction) in self.delta.instructions[self.index..].iter().enumerate() {
+            if offset < instruction.length {
+                return (self.index + ahead, offset);
+            }
+            offset -= instruction.length;
+        }
+        unreachable!()
+    }
+
+    // The same, searched from the first instruction where the cursor is past the place. The cursor then
+    // stands at the instruction that was found.
+    pub fn locate(&mut self, place: u16) -> (usize, u16)
+        requires { place < self.old.delta.now.head.target }
+        ensures same_delta { self.new.delta.now ≡ self.old.delta.now }
+        ensures located { Located self.old.delta.now.instructions.now place result.0 result.1 }
+    {
+        if place < self.place {
+            *self = Cursor::new(self.delta);
+        }
+        let (index, offset) = self.search(place);
+        *self = Cursor {
+            delta: self.delta,
+            index,
+            place: place - offset,
+        };
+        (index, offset)
     }
 }
 
-// How much of a found instruction is taken: what is still wanted, or what is left of it.
-fn lesser(wanted: u16, left: u16) -> u16
-    ensures { result ≡ min wanted left }
-{
-    if wanted < left { wanted } else { left }
-}
-
-// Writes `count` of the places that some instructions give, from an offset inside one of them on:
-// `source` has the units that they insert.
+// Writes `count` of the places that the cursor's delta gives, from `place` on.
 pub(crate) fn splice<U: Unit>(
-    out: &mut [Instruction],
-    units: &mut [U],
-    at: Written,
-    instructions: &[Instruction],
-    source: &[U],
-    found: (usize, u16),
+    output: &mut Output<U>,
+    cursor: &mut Cursor<U>,
+    place: u16,
     count: u16,
-) -> Written
-    requires fits { AllByRecursion (Fits 65535 (length source.now)) instructions.now }
-    requires few { length source.now ≤ 65535 }
-    requires located { Located instructions.now (place_at instructions.now found.0 found.1) found.0 found.1 }
-    requires inside { place_at instructions.now found.0 found.1 + count ≤ total instructions.now }
-    requires space { Space out.old units.old at count }
-    ensures { Appended (take count (drop (place_at instructions.now found.0 found.1) (origins source.now instructions.now))) out.old units.old at out.new units.new result }
+)
+    requires some { 0 < count }
+    requires inside { place + count ≤ cursor.old.delta.now.head.target }
+    requires space { Space output.old count }
+    ensures same_delta { cursor.new.delta.now ≡ cursor.old.delta.now }
+    ensures appended { Appended (take count (drop place (origins_of (lawful_parts cursor.old.delta.now)))) output.old output.new }
 {
-    let (mut index, mut offset) = found;
-    let mut left = count;
-    let mut written = at;
-    while left > 0 {
-        let next = instructions[index];
-        let taken = lesser(left, next.length - offset);
-        written = append(out, units, written, source, cut(next, offset, taken));
-        left -= taken;
-        index += 1;
+    let (index, mut offset) = cursor.locate(place);
+    let delta = cursor.delta;
+    let mut wanted = count;
+    for next in &delta.instructions[index..] {
+        let taken = wanted.min(next.length - offset);
+        output.append(delta.units, cut(*next, offset, taken));
+        wanted -= taken;
+        if wanted == 0 {
+            break;
+        }
         offset = 0;
     }
-    written
 }

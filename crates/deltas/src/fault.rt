@@ -49,6 +49,7 @@ pub enum NormalFault {
     Short(u16),
 }
 
+// By hand: a derived conversion promises nothing, and this one says what it gives.
 impl From<DeltaFault> for NormalFault {
     ghost from_gives = { λ f r. r ≡ Unlawful f };
 
@@ -57,6 +58,7 @@ impl From<DeltaFault> for NormalFault {
     }
 }
 
+// A fault as users know it.
 impl From<DeltaFault> for Refusal {
     ghost from_gives = { λ f r. r ≡ delta_refusal f };
 
@@ -77,6 +79,7 @@ impl From<DeltaFault> for Refusal {
     }
 }
 
+// A fault as users know it.
 impl From<PairFault> for Refusal {
     ghost from_gives = { λ f r. r ≡ pair_refusal f };
 
@@ -94,23 +97,7 @@ impl From<PairFault> for Refusal {
     }
 }
 
-impl DeltaFault {
-    // The fault as users know it.
-    pub fn refusal(self) -> Refusal
-        ensures { result ≡ delta_refusal self }
-    {
-        self.into()
-    }
-}
-
 impl PairFault {
-    // The fault as users know it.
-    pub fn refusal(self) -> Refusal
-        ensures { result ≡ pair_refusal self }
-    {
-        self.into()
-    }
-
     // Which of the two deltas is at fault, where it is one of them.
     pub fn side(self) -> Option<Side>
         ensures { result ≡ pair_side self }

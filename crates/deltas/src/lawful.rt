@@ -1,11 +1,11 @@
 // Deltas that passed the check.
-ghost use Rattle.std.specs.Prelude.{◌≡◌, length};
+ghost use Rattle.std.specs.Prelude.{◌≡◌, ◌≤◌, length};
 ghost use Rattle.deltas.specs.Check.{parts, Lawful};
 
 use crate::delta::Head;
 use crate::instruction::Instruction;
 
-// A lawful delta over its own entries alone.
+// A lawful delta over its own entries alone. Its tables are lent, so the head keeps the counts.
 #[derive(Drop)]
 pub struct LawfulDelta<'i, 'u, U> {
     pub head: Head,
@@ -15,4 +15,7 @@ pub struct LawfulDelta<'i, 'u, U> {
     pub ghost count: { length instructions.now ≡ head.instructions },
     pub ghost inserted: { length units.now ≡ head.inserted },
     pub ghost lawful: { Lawful (parts head instructions.now units.now) },
+    // what the types of its head's fields say, which proofs read here
+    pub ghost source: { head.source ≤ 65535 },
+    pub ghost target: { head.target ≤ 65535 },
 }

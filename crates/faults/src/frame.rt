@@ -54,6 +54,7 @@ pub enum WriteFault {
     Short(usize),
 }
 
+// These four by hand: a derived conversion promises nothing, and each of these says what it gives.
 impl From<FrameFault> for ParseFault {
     ghost from_gives = { λ f r. r ≡ Frame f };
 
@@ -86,6 +87,7 @@ impl From<DeltaFault> for WriteFault {
     }
 }
 
+// A fault as users know it.
 impl From<FrameFault> for Refusal {
     ghost from_gives = { λ f r. r ≡ frame_refusal f };
 
@@ -105,6 +107,7 @@ impl From<FrameFault> for Refusal {
     }
 }
 
+// A fault as users know it.
 impl From<ParseFault> for Refusal {
     ghost from_gives = { λ f r. r ≡ parse_refusal f };
 
@@ -127,6 +130,7 @@ fn too_short(need: usize) -> Refusal
     }
 }
 
+// A fault as users know it.
 impl From<ReadFault> for Refusal {
     ghost from_gives = { λ f r. r ≡ read_refusal f };
 
@@ -138,6 +142,7 @@ impl From<ReadFault> for Refusal {
     }
 }
 
+// A fault as users know it.
 impl From<WriteFault> for Refusal {
     ghost from_gives = { λ f r. r ≡ write_refusal f };
 
@@ -146,41 +151,5 @@ impl From<WriteFault> for Refusal {
             WriteFault::Unlawful(fault) => fault.into(),
             WriteFault::Short(need) => too_short(need),
         }
-    }
-}
-
-impl FrameFault {
-    // The fault as users know it.
-    pub fn refusal(self) -> Refusal
-        ensures { result ≡ frame_refusal self }
-    {
-        self.into()
-    }
-}
-
-impl ParseFault {
-    // The fault as users know it.
-    pub fn refusal(self) -> Refusal
-        ensures { result ≡ parse_refusal self }
-    {
-        self.into()
-    }
-}
-
-impl ReadFault {
-    // The fault as users know it.
-    pub fn refusal(self) -> Refusal
-        ensures { result ≡ read_refusal self }
-    {
-        self.into()
-    }
-}
-
-impl WriteFault {
-    // The fault as users know it.
-    pub fn refusal(self) -> Refusal
-        ensures { result ≡ write_refusal self }
-    {
-        self.into()
     }
 }

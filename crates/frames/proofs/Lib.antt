@@ -4,11 +4,11 @@ pub mod Wires
 pub mod Openings
 pub mod Tables
 pub mod RoundTrips
-pub mod Bytes
 pub mod Walks
 pub mod Verdicts
 pub mod Filling
 pub mod Receiving
+pub mod Writers
 pub mod Emitting
 pub mod FirstWrong
 pub mod Sending

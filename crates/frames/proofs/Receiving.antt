@@ -10,28 +10,30 @@ use Rattle.deltas.specs.declared.delta.Head.{Head}
 use Rattle.deltas.specs.declared.instruction.Instruction.{Instruction}
 use Rattle.deltas.specs.Check.{Parts, parts}
 use Rattle.deltas.proofs.Sound.{passed}
-use Rattle.combining.proofs.Outputs.{filled}
 use Rattle.faults.specs.declared.frame.ReadFault.TheVariants as read
 use Rattle.frames.specs.Instructions.{Wire}
 use Rattle.frames.specs.Reading.{then, with_fault, wires, units_of_wire, entries, inserts_in, delta_in, parsed_frame}
 use Rattle.frames.specs.Writing.{encoded}
 use Rattle.frames.specs.Outcomes.{check_answer, if_fits, read_answer, held}
-use Rattle.frames.specs.Steps.{found, wires_in, Frames}
+use Rattle.frames.specs.Steps.{found, left, wires_in}
+use Rattle.frames.specs.declared.reader.WireReader.{WireReader}
 use Rattle.frames.proofs.Steps.{then_ok}
 use Rattle.frames.proofs.Wires.{wires_fit}
 use Rattle.frames.proofs.Openings.{opening_in}
 use Rattle.frames.proofs.Tables.{length_entries, length_inserted}
 use Rattle.frames.proofs.RoundTrips.{accepted, parsed_facts, unpacked_facts, encoded_front, bytes_again}
-use Rattle.frames.proofs.Filling.{length_sets}
+use Rattle.frames.proofs.Walks.{at_first}
+use Rattle.std.proofs.Math.Seq.{length-sets}
 
--- a table whose front is written, and then blanks
-pub front_filled : {A : Type 0} (t vs : List A) (n : ℕ) (b : A) → n ≡ length vs → length vs ≤ length t → take n (sets t 0 vs) ++ replicate (length (sets t 0 vs) - n) b ≡ vs ++ replicate (length t - length vs) b
-front_filled t vs n b e l =
-    filled t (sets t 0 vs) vs n b (ap (take n) (sets-eq vs t 0 (omega arith)) ∙ take_at vs (drop (0 + length vs) t) n (sym e)) e (length_sets vs t 0)
-
--- the same of a table after it was filled and its rest was blanked
-pub blanked : {A : Type 0} (x t y : List A) (n : ℕ) (a b : A) (goal : List A) → y ≡ take n x ++ replicate (length x - n) a → x ≡ t → a ≡ b → take n t ++ replicate (length t - n) b ≡ goal → y ≡ goal
-blanked x t y n a b goal e f h k = e ∙ ap (λ z. take n z ++ replicate (length z - n) a) f ∙ ap (λ z. take n t ++ replicate (length t - n) z) h ∙ k
+-- a table whose front was written, and whose rest was blanked
+front_blanked : {A : Type 0} (t x y vs : List A) (n : ℕ) (a b : A) → n ≡ length vs → n ≤ length t → x ≡ sets t 0 vs → a ≡ b → y ≡ take n x ++ replicate (length x - n) a → y ≡ vs ++ replicate (length t - length vs) b
+front_blanked t x y vs n a b e l f g h =
+    let front = ap (take n) (f ∙ sets-eq vs t 0 (omega arith)) ∙ take_at vs (drop (0 + length vs) t) n (sym e) in
+    let left : length x - n ≡ length t - length vs = omega (arith, ap length f, length-sets t 0 vs) in
+    h
+    ∙ ap (λ xs. xs ++ replicate (length x - n) a) front
+    ∙ ap (λ m. vs ++ replicate m a) left
+    ∙ ap (λ z. vs ++ replicate (length t - length vs) z) g
 
 module _ {U : Type 0} {kind width : ℕ} (c : Code U kind width) where
   -- all that is known of a frame that passed its check
@@ -39,8 +41,8 @@ module _ {U : Type 0} {kind width : ℕ} (c : Code U kind width) where
     pub instructions : List Wire
     pub delta : parsed_frame c f ≡ Ok (delta_in c (opening_in f) instructions)
     pub head : (delta_in c (opening_in f) instructions).head ≡ h
-    pub stands : Frames width h.instructions f
-    pub same : wires_in width h.instructions f ≡ instructions
+    pub long : 12 ≤ length f
+    pub stands : wires width h.instructions 12 (drop 12 f) ≡ Ok instructions
     pub few : inserts_in instructions ≤ 65535
 
   received_from : (f : List ℕ) (h : Head) (d : Parts U) → parsed_frame c f ≡ Ok d → d.head ≡ h → Received f h
@@ -48,14 +50,12 @@ module _ {U : Type 0} {kind width : ℕ} (c : Code U kind width) where
       let u = unpacked_facts c f d (parsed_facts c f d p).0 in
       let l = (accepted c f d p).0 in
       let n : number_at 10 2 f ≡ h.instructions = sym (wires_fit width (number_at 10 2 f) 12 (drop 12 f) u.instructions u.read).0 ∙ ap (λ g. g.head.instructions) (sym u.is) ∙ ap (λ g. g.instructions) e in
-      let w = ap (λ m. wires width m 12 (drop 12 f)) (sym n) ∙ u.read in
-      let s : wires_in width h.instructions f ≡ u.instructions = ap found w in
       record {
         instructions = u.instructions;
         delta = p ∙ ap Ok u.is;
         head = ap (λ g. g.head) (sym u.is) ∙ e;
-        stands = record { opened = u.opened.long; stands = w ∙ ap Ok (sym s) };
-        same = s;
+        long = u.opened.long;
+        stands = ap (λ m. wires width m 12 (drop 12 f)) (sym n) ∙ u.read;
         few = subst (λ g. g.head.inserted ≤ 65535) u.is (passed d l).small;
       }
 
@@ -71,19 +71,25 @@ module _ {U : Type 0} {kind width : ℕ} (c : Code U kind width) where
       let fits : if_fits i u d ≡ Ok h = subst (λ g. if_fits i u (parts g d.table d.units) ≡ Ok h) (sym r.head) (grind (arith, nat_tests)) in
       sym (ap (λ q. then (with_fault read.Unread q) (if_fits i u)) r.delta ∙ fits)
 
-  pub read_instructions : (f : List ℕ) (h : Head) (t : List Instruction) (b : Instruction) → Received f h → h.instructions ≤ length t → take h.instructions (sets t 0 (entries 0 (wires_in width h.instructions f))) ++ replicate (length (sets t 0 (entries 0 (wires_in width h.instructions f))) - h.instructions) b ≡ held (parsed_frame c f) (λ d. d.table) ++ replicate (length t - length (held (parsed_frame c f) (λ d. d.table))) b
-  read_instructions f h t b r l =
-      let xs = wires_in width h.instructions f in
-      let n : h.instructions ≡ length (entries 0 xs) = sym (length_entries 0 xs ∙ ap length r.same ∙ ap (λ g. g.instructions) r.head) in
-      let e : entries 0 xs ≡ held (parsed_frame c f) (λ d. d.table) = ap (entries 0) r.same ∙ sym (ap (λ q. held q (λ d. d.table)) r.delta) in
-      front_filled t (entries 0 xs) h.instructions b n (omega arith) ∙ ap (λ vs. vs ++ replicate (length t - length vs) b) e
+  -- The tables, after the instructions of a reader behind the first 12 bytes were written and the rest was blanked.
+  module _ (f : List ℕ) (h : Head) (r : Received f h) (q : WireReader) (qf : q.frame.now ≡ f) (qp : q.place ≡ 12) where
+    pub left_is : left width h.instructions q ≡ Ok r.instructions
+    left_is = at_first width h.instructions q f qf qp ∙ r.stands
 
-  pub read_units : (f : List ℕ) (h : Head) (t : List U) (b : U) → Received f h → h.inserted ≤ length t → take h.inserted (sets t 0 (flat_map (units_of_wire c) (wires_in width h.instructions f))) ++ replicate (length (sets t 0 (flat_map (units_of_wire c) (wires_in width h.instructions f))) - h.inserted) b ≡ held (parsed_frame c f) (λ d. d.units) ++ replicate (length t - length (held (parsed_frame c f) (λ d. d.units))) b
-  read_units f h t b r l =
-      let xs = wires_in width h.instructions f in
-      let n : h.inserted ≡ length (flat_map (units_of_wire c) xs) = sym (length_inserted c xs ∙ ap inserts_in r.same ∙ ap (λ g. g.inserted) r.head) in
-      let e : flat_map (units_of_wire c) xs ≡ held (parsed_frame c f) (λ d. d.units) = ap (flat_map (units_of_wire c)) r.same ∙ sym (ap (λ q. held q (λ d. d.units)) r.delta) in
-      front_filled t (flat_map (units_of_wire c) xs) h.inserted b n (omega arith) ∙ ap (λ vs. vs ++ replicate (length t - length vs) b) e
+    pub wires_are : wires_in width h.instructions q ≡ r.instructions
+    wires_are = ap found left_is
+
+    pub read_instructions : (t x y : List Instruction) (n : ℕ) (a b : Instruction) → n ≡ h.instructions → h.instructions ≤ length t → x ≡ sets t 0 (entries 0 (wires_in width h.instructions q)) → a ≡ b → y ≡ take n x ++ replicate (length x - n) a → y ≡ held (parsed_frame c f) (λ d. d.table) ++ replicate (length t - length (held (parsed_frame c f) (λ d. d.table))) b
+    read_instructions t x y n a b s l e g k =
+        let m : n ≡ length (entries 0 r.instructions) = s ∙ sym (length_entries 0 r.instructions ∙ ap (λ g. g.instructions) r.head) in
+        front_blanked t x y (entries 0 r.instructions) n a b m (omega arith) (e ∙ ap (λ xs. sets t 0 (entries 0 xs)) wires_are) g k
+        ∙ ap (λ z. held z (λ d. d.table) ++ replicate (length t - length (held z (λ d. d.table))) b) (sym r.delta)
+
+    pub read_units : (t x y : List U) (n : ℕ) (a b : U) → n ≡ h.inserted → h.inserted ≤ length t → x ≡ sets t 0 (flat_map (units_of_wire c) (wires_in width h.instructions q)) → a ≡ b → y ≡ take n x ++ replicate (length x - n) a → y ≡ held (parsed_frame c f) (λ d. d.units) ++ replicate (length t - length (held (parsed_frame c f) (λ d. d.units))) b
+    read_units t x y n a b s l e g k =
+        let m : n ≡ length (flat_map (units_of_wire c) r.instructions) = s ∙ sym (length_inserted c r.instructions ∙ ap (λ g. g.inserted) r.head) in
+        front_blanked t x y (flat_map (units_of_wire c) r.instructions) n a b m (omega arith) (e ∙ ap (λ xs. sets t 0 (flat_map (units_of_wire c) xs)) wires_are) g k
+        ∙ ap (λ z. held z (λ d. d.units) ++ replicate (length t - length (held z (λ d. d.units))) b) (sym r.delta)
 
 module _ {U : Type 0} {kind width : ℕ} (c : Code U kind width) (k : CodeLaws c) where
   -- what was read is written again

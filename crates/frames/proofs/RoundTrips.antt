@@ -6,6 +6,7 @@ use Rattle.std.proofs.lemmas.Nat.{mul-le}
 use Rattle.std.proofs.ByRecursion.{All-drop, All-from_get_or}
 use Rattle.std.proofs.lemmas.List.{length-map, length-take-le, take_all, take_at}
 use Rattle.std.proofs.lemmas.Bool.{cases_lt}
+use Rattle.std.proofs.lemmas.List.Folds.{flat_map-map}
 use Rattle.units.specs.BigEndian.{number_at}
 use Rattle.units.specs.Code.{Code, CodeLaws}
 use Rattle.deltas.specs.declared.instruction.Instruction.{Instruction}
@@ -23,10 +24,10 @@ use Rattle.frames.specs.Writing.{wire_of, instructions_bytes, frame_bytes, encod
 use Rattle.frames.proofs.Steps.{then_ok, with_fault_ok}
 use Rattle.frames.proofs.Wires.{wires_fit, wires_again, wires_read}
 use Rattle.frames.proofs.Openings.{Opened, opening_in, opened_facts, opened_back, frame_bytes_again, length_frame_bytes, frame_bytes_opened, opening_again}
-use Rattle.frames.proofs.Tables.{joined_map, length_entries, length_inserted, wires_of_entries, wires_fitting, entries_of_wires, inserts_of_wires, units_of_wires, length_instructions}
+use Rattle.frames.proofs.Tables.{length_entries, length_inserted, wires_of_entries, wires_fitting, entries_of_wires, inserts_of_wires, units_of_wires, length_instructions}
 
 -- deltas of the same three parts are the same
-same_parts : {U : Type 0} (g h : Head) (is js : List Instruction) (us vs : List U) → g ≡ h → is ≡ js → us ≡ vs → parts g is us ≡ parts h js vs
+pub same_parts : {U : Type 0} (g h : Head) (is js : List Instruction) (us vs : List U) → g ≡ h → is ≡ js → us ≡ vs → parts g is us ≡ parts h js vs
 same_parts g h is js us vs e f k = cc
 
 -- a delta whose tables are just its own entries
@@ -125,7 +126,7 @@ module _ {U : Type 0} {kind width : ℕ} (c : Code U kind width) (k : CodeLaws c
       let fits = wires_fit width (number_at 10 2 f) 12 (drop 12 f) xs read in
       let again = wires_again width (number_at 10 2 f) 12 (drop 12 f) xs (All-drop (λ (b : ℕ). b < 256) 12 f u) read in
       let us = flat_map (units_of_wire c) xs in
-      joined_map wire_bytes (wire_of c us) (entries 0 xs)
+      sym (flat_map-map wire_bytes (wire_of c us) (entries 0 xs))
       ∙ ap (flat_map wire_bytes) (wires_of_entries c k us 0 xs fits.1 again.1 refl)
       ∙ again.0
 
@@ -170,7 +171,7 @@ module _ {U : Type 0} {kind width : ℕ} (c : Code U kind width) (k : CodeLaws c
       let long = length-take-le d.head.inserted d.units p.inserted in
       let fits = wires_fitting c k us d.head.source 0 is p.sound (omega arith) (omega arith) (omega arith) in
       let count = length-map is (wire_of c us) ∙ length-take-le d.head.instructions d.table p.instructions in
-      ap (wires width d.head.instructions 12) (joined_map wire_bytes (wire_of c us) is)
+      ap (wires width d.head.instructions 12) (sym (flat_map-map wire_bytes (wire_of c us) is))
       ∙ ap (λ (n : ℕ). wires width n 12 (flat_map wire_bytes (map (wire_of c us) is))) (sym count)
       ∙ wires_read width 12 (map (wire_of c us) is) fits
 

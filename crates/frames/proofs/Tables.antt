@@ -27,11 +27,6 @@ under_at bs u i = ⊎_elim
     (λ h. let e = get_or_past bs i 0 h in omega arith)
     (cases_lt i (length bs))
 
--- joined through a map
-pub joined_map : {X Y A : Type 0} (f : Y → List A) (g : X → Y) (xs : List X) → flat_map (λ x. f (g x)) xs ≡ flat_map f (map g xs)
-joined_map f g [] = refl
-joined_map f g (x ∷ xs) = ap (λ (t : List _). f (g x) ++ t) (joined_map f g xs)
-
 -- as many entries as instructions
 pub length_entries : (k : ℕ) (xs : List Wire) → length (entries k xs) ≡ length xs
 length_entries k [] = refl

@@ -1,11 +1,9 @@
 -- What the check of a frame answers.
-use Rattle.std.proofs.Common.{◌≡◌, ℕ, ◌<◌, ◌≤◌, List, length, drop, Ok, Err, Result, sym, refl, ap, ◌∙◌, arith}
+use Rattle.std.proofs.Common.{◌≡◌, ℕ, ◌≤◌, List, length, drop, Ok, Err, Result, sym, refl, ap, ◌∙◌, arith}
 use Rattle.std.proofs.lemmas.List.{take_all}
-use Rattle.std.proofs.lemmas.Bool.Decides.{nat_tests}
 use Rattle.units.specs.Code.{Code}
 use Rattle.deltas.specs.declared.delta.Head.{Head}
 use Rattle.deltas.specs.declared.fault.DeltaFault.{DeltaFault}
-use Rattle.deltas.specs.declared.fault.DeltaFault.TheVariants.{Counts}
 use Rattle.deltas.specs.Check.{head, Parts, checked, walked}
 use Rattle.deltas.proofs.Checks.{checked_walks}
 use Rattle.deltas.proofs.Sound.{passed_any}
@@ -15,21 +13,20 @@ use Rattle.faults.specs.declared.frame.ParseFault.TheVariants.{Frame, Delta}
 use Rattle.frames.specs.Instructions.{Wire}
 use Rattle.frames.specs.Reading.{then, with_fault, opened, wires, entries, inserts_in, delta_in, unpacked, if_lawful}
 use Rattle.frames.specs.Outcomes.{check_answer}
-use Rattle.frames.specs.Steps.{found, wires_in}
+use Rattle.frames.specs.Steps.{found, left, wires_in}
+use Rattle.frames.specs.declared.reader.WireReader.{WireReader}
 use Rattle.frames.proofs.Tables.{length_entries, length_inserted}
 use Rattle.frames.proofs.Wires.{wires_fit}
+use Rattle.frames.proofs.Walks.{at_first}
 
 module _ {U : Type 0} {kind width : ℕ} (c : Code U kind width) where
-  -- where its instructions insert no more than 65,535 units, its check is the walk; where more, its counts are at fault
-  pub checked_in : (o : Opening) (xs : List Wire) → length xs ≤ 65535 → inserts_in xs ≤ 65535 → checked (delta_in c o xs) ≡ walked (head o.source o.target (length xs) (inserts_in xs)) 0 0 0 (entries 0 xs)
+  -- where its instructions insert no more than 65,535 units, its check is the walk
+  checked_in : (o : Opening) (xs : List Wire) → length xs ≤ 65535 → inserts_in xs ≤ 65535 → checked (delta_in c o xs) ≡ walked (head o.source o.target (length xs) (inserts_in xs)) 0 0 0 (entries 0 xs)
   checked_in o xs l m =
       let n = length_entries 0 xs in
       let u = length_inserted c xs in
       checked_walks (delta_in c o xs) (omega arith) l (omega arith) m
       ∙ ap (walked (head o.source o.target (length xs) (inserts_in xs)) 0 0 0) (take_all (length xs) (entries 0 xs) (omega arith))
-
-  pub checked_over : (o : Opening) (xs : List Wire) → 65535 < inserts_in xs → checked (delta_in c o xs) ≡ Err Counts
-  checked_over o xs m = grind (arith, nat_tests)
 
 -- a lawful delta's head, by its check
 head_from : {U : Type 0} (d : Parts U) (q : Result Head DeltaFault) → checked d ≡ q → then (then (with_fault Delta q) (λ _. Ok d)) (λ e. Ok e.head) ≡ with_fault Delta q
@@ -40,36 +37,30 @@ head_from d (Ok h) e =
     ap Ok t
 head_from d (Err f) e = refl
 
-pub head_lawful : {U : Type 0} (d : Parts U) → then (if_lawful d) (λ e. Ok e.head) ≡ with_fault Delta (checked d)
+head_lawful : {U : Type 0} (d : Parts U) → then (if_lawful d) (λ e. Ok e.head) ≡ with_fault Delta (checked d)
 head_lawful d = head_from d (checked d) refl
 
 -- The answer, once the frame is opened and its instructions are found.
 
-pub found_is : (q : Result (List Wire) FrameFault) (n : ℕ) → Ok n ≡ then q (λ xs. Ok (inserts_in xs)) → (q ≡ Ok (found q)) × (n ≡ inserts_in (found q))
+found_is : (q : Result (List Wire) FrameFault) (n : ℕ) → Ok n ≡ then q (λ xs. Ok (inserts_in xs)) → (q ≡ Ok (found q)) × (n ≡ inserts_in (found q))
 found_is (Ok xs) n e = (refl, cc)
 found_is (Err f) n e = let z : ◌≡◌ {A = ℕ} 0 1 = cc in absurd (omega arith)
 
 module _ {U : Type 0} {kind width : ℕ} (c : Code U kind width) where
-  pub answer_found : (f : List ℕ) (o : Opening) (xs : List Wire) → opened kind f ≡ Ok o → wires width o.instructions 12 (drop 12 f) ≡ Ok xs → check_answer c f ≡ with_fault Delta (checked (delta_in c o xs))
+  answer_found : (f : List ℕ) (o : Opening) (xs : List Wire) → opened kind f ≡ Ok o → wires width o.instructions 12 (drop 12 f) ≡ Ok xs → check_answer c f ≡ with_fault Delta (checked (delta_in c o xs))
   answer_found f o xs p q =
       let u : unpacked c f ≡ Ok (delta_in c o xs) = rw (p, q) refl in
       ap (λ r. then (then (with_fault Frame r) if_lawful) (λ d. Ok d.head)) u ∙ head_lawful (delta_in c o xs)
 
-  -- as the program has it
-  pub answer_walks : (f : List ℕ) (o : Opening) (k w n : ℕ) → k ≡ kind → w ≡ width → Ok o ≡ opened k f → Ok n ≡ then (wires w o.instructions 12 (drop 12 f)) (λ xs. Ok (inserts_in xs)) → o.instructions ≤ 65535 → n ≤ 65535 → with_fault Delta (walked (head o.source o.target o.instructions n) 0 0 0 (entries 0 (wires_in w o.instructions f))) ≡ check_answer c f
-  answer_walks f o k w n ke we p q l m =
-      let xs = wires_in w o.instructions f in
-      let r = found_is (wires w o.instructions 12 (drop 12 f)) n q in
-      let i = (wires_fit w o.instructions 12 (drop 12 f) xs r.0).0 in
-      let a = answer_found f o xs (ap (λ j. opened j f) (sym ke) ∙ sym p) (ap (λ j. wires j o.instructions 12 (drop 12 f)) (sym we) ∙ r.0) in
+  -- as the program has it, over a reader that stands behind the first 12 bytes
+  pub answer_walks : (f : List ℕ) (o : Opening) (r : WireReader) (k n : ℕ) → r.frame.now ≡ f → r.place ≡ 12 → k ≡ kind → Ok o ≡ opened k f → Ok n ≡ then (left width o.instructions r) (λ xs. Ok (inserts_in xs)) → o.instructions ≤ 65535 → n ≤ 65535 → with_fault Delta (walked (head o.source o.target o.instructions n) 0 0 0 (entries 0 (wires_in width o.instructions r))) ≡ check_answer c f
+  answer_walks f o r k n rf rp ke p q l m =
+      let xs = wires_in width o.instructions r in
+      let s = found_is (left width o.instructions r) n q in
+      let w = sym (at_first width o.instructions r f rf rp) ∙ s.0 in
+      let i = (wires_fit width o.instructions 12 (drop 12 f) xs w).0 in
+      let a = answer_found f o xs (ap (λ j. opened j f) (sym ke) ∙ sym p) w in
       ap (λ j. with_fault Delta (walked (head o.source o.target j n) 0 0 0 (entries 0 xs))) (sym i)
-      ∙ ap (λ j. with_fault Delta (walked (head o.source o.target (length xs) j) 0 0 0 (entries 0 xs))) r.1
+      ∙ ap (λ j. with_fault Delta (walked (head o.source o.target (length xs) j) 0 0 0 (entries 0 xs))) s.1
       ∙ ap (with_fault Delta) (sym (checked_in c o xs (omega arith) (omega arith)))
       ∙ sym a
-
-  pub answer_over : (f : List ℕ) (o : Opening) (k w n : ℕ) → k ≡ kind → w ≡ width → Ok o ≡ opened k f → Ok n ≡ then (wires w o.instructions 12 (drop 12 f)) (λ xs. Ok (inserts_in xs)) → 65535 < n → Err (Delta Counts) ≡ check_answer c f
-  answer_over f o k w n ke we p q m =
-      let xs = wires_in w o.instructions f in
-      let r = found_is (wires w o.instructions 12 (drop 12 f)) n q in
-      let a = answer_found f o xs (ap (λ j. opened j f) (sym ke) ∙ sym p) (ap (λ j. wires j o.instructions 12 (drop 12 f)) (sym we) ∙ r.0) in
-      ap (with_fault Delta) (sym (checked_over c o xs (omega (arith, r.1)))) ∙ sym a

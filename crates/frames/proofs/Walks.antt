@@ -1,88 +1,94 @@
 -- The instructions of a frame, one after another.
-use Rattle.std.proofs.Common.{◌≡◌, ℕ, suc, ◌+◌, ◌-◌, ◌<◌, ◌≤◌, Bool, true, false, cond, eqb, List, [], ◌∷◌, length, take, drop, Ok, Err, Result, sym, refl, ap, ◌∙◌, arith}
-use Rattle.std.proofs.lemmas.List.{take_rest, length-drop}
+use Rattle.std.proofs.Common.{◌≡◌, ℕ, suc, ◌+◌, ◌-◌, ◌<◌, ◌≤◌, List, [], ◌∷◌, drop, Ok, Err, Result, IsOk, sym, refl, ap, ◌∙◌, arith}
+use Rattle.std.proofs.lemmas.Bool.Decides.{nat_tests}
+use Rattle.std.proofs.lemmas.List.{drop-drop}
 use Rattle.deltas.specs.declared.instruction.Instruction.{Instruction}
 use Rattle.deltas.specs.declared.delta.Head.{Head}
 use Rattle.deltas.specs.declared.fault.DeltaFault.{DeltaFault}
 use Rattle.deltas.specs.Check.{stepped, walked}
 use Rattle.deltas.proofs.Sound.{stepped_facts}
 use Rattle.faults.specs.declared.frame.FrameFault.{FrameFault}
-use Rattle.faults.specs.declared.frame.FrameFault.TheVariants.{SpareBytes}
 use Rattle.faults.specs.declared.frame.ParseFault.TheVariants.{Delta}
+use Rattle.frames.specs.declared.reader.WireReader.{WireReader}
 use Rattle.frames.proofs.Steps.{then_ok}
 use Rattle.frames.specs.Instructions.{Wire, copy, insert, extent, inserts_of}
-use Rattle.frames.specs.Reading.{then, with_fault, first, wires, entry, entries, inserts_in}
+use Rattle.frames.specs.Reading.{then, with_fault, wires, entry, entries, inserts_in}
+use Rattle.frames.specs.Steps.{found, due, left, wires_in, Read}
+
+found_ok : (q : Result (List Wire) FrameFault) → IsOk q → q ≡ Ok (found q)
+found_ok (Ok xs) h = refl
+found_ok (Err e) h = cc h
+
+-- a reader behind the first 12 bytes of a frame
+pub at_first : (w n : ℕ) (r : WireReader) (f : List ℕ) → r.frame.now ≡ f → r.place ≡ 12 → left w n r ≡ wires w n 12 (drop 12 f)
+at_first w n r f e p = ap (λ q. wires w n q (drop q r.frame.now)) p ∙ ap (λ g. wires w n 12 (drop 12 g)) e
+
+-- where none is at fault, those that are left are found
+pub left_ok : (w n : ℕ) (r : WireReader) → IsOk (left w n r) → left w n r ≡ Ok (wires_in w n r)
+left_ok w n r h = found_ok (left w n r) h
 
 -- how many units are inserted in all, after m so far
 abbrev pub counted : ℕ → Result (List Wire) FrameFault → Result ℕ FrameFault
 counted m q = then q (λ xs. Ok (m + inserts_in xs))
 
-pub counted_none : (q : Result (List Wire) FrameFault) → counted 0 q ≡ then q (λ xs. Ok (inserts_in xs))
-counted_none (Ok xs) = ap Ok (omega arith)
-counted_none (Err e) = refl
-
 counted_on : (m : ℕ) (x : Wire) (q : Result (List Wire) FrameFault) → counted m (then q (λ xs. Ok (x ∷ xs))) ≡ counted (m + inserts_of x) q
 counted_on m x (Ok xs) = ap Ok (omega arith)
 counted_on m x (Err e) = refl
 
--- with n + 1 instructions left: the next one, or its fault
-count_turn : (w n p m : ℕ) (bs : List ℕ) (x : Wire) → first w p bs ≡ Ok x → counted m (wires w (suc n) p bs) ≡ counted (m + inserts_of x) (wires w n (p + extent x) (drop (extent x) bs))
-count_turn w n p m bs x e =
-    ap (λ q. counted m (then q (λ y. then (wires w n (p + extent y) (drop (extent y) bs)) (λ xs. Ok (y ∷ xs))))) e
-    ∙ counted_on m x (wires w n (p + extent x) (drop (extent x) bs))
+-- One turn of a loop over a reader, the one after t turns of n.
 
-count_fault : (w n p m : ℕ) (bs : List ℕ) (f : FrameFault) → first w p bs ≡ Err f → counted m (wires w (suc n) p bs) ≡ Err f
-count_fault w n p m bs f e = ap (λ q. counted m (then q (λ y. then (wires w n (p + extent y) (drop (extent y) bs)) (λ xs. Ok (y ∷ xs))))) e
+module _ (w n t : ℕ) (r : WireReader) (l : t < n) where
+  -- the next instruction is read, and then those behind it
+  next_left : (s : WireReader) (x : Wire) → Read w r x s → left w (n - t) r ≡ then (left w (n - (t + 1)) s) (λ xs. Ok (x ∷ xs))
+  next_left s x e =
+      let k = n - (t + 1) in
+      let more : n - t ≡ suc k = omega arith in
+      let go : Wire → Result (List Wire) FrameFault = λ y. then (wires w k (r.place + extent y) (drop (extent y) (drop r.place r.frame.now))) (λ xs. Ok (y ∷ xs)) in
+      ap (λ i. left w i r) more
+      ∙ ap (λ q. then q go) e.is
+      ∙ ap (λ bs. then (wires w k (r.place + extent x) bs) (λ xs. Ok (x ∷ xs))) (drop-drop (extent x) r.place r.frame.now)
+      ∙ ap (λ p. then (wires w k p (drop p r.frame.now)) (λ xs. Ok (x ∷ xs))) (sym e.place)
+      ∙ ap (λ f. then (wires w k s.place (drop s.place f)) (λ xs. Ok (x ∷ xs))) (sym e.frame)
 
--- the same as the loop goes, after t turns of n
-pub count_again : (w n t p m j k : ℕ) (bs : List ℕ) (x : Wire) (a : Result ℕ FrameFault) → t < n → first w p bs ≡ Ok x → j ≡ inserts_of x → k ≡ extent x → counted m (wires w (n - t) p bs) ≡ a → counted (m + j) (wires w (n - (t + 1)) (p + k) (take (length bs - k) (drop k bs))) ≡ a
-count_again w n t p m j k bs x a l e f g h =
-    let s : n - t ≡ suc (n - (t + 1)) = omega arith in
-    ap (λ r. counted (m + j) (wires w (n - (t + 1)) (p + k) r)) (take_rest bs k)
-    ∙ ap (λ i. counted (m + i) (wires w (n - (t + 1)) (p + k) (drop k bs))) f
-    ∙ ap (λ i. counted (m + inserts_of x) (wires w (n - (t + 1)) (p + i) (drop i bs))) g
-    ∙ sym (count_turn w (n - (t + 1)) p m bs x e)
-    ∙ ap (λ i. counted m (wires w i p bs)) (sym s)
-    ∙ h
+  -- or it is at fault
+  next_fault : (f : FrameFault) → due w r ≡ Err f → left w (n - t) r ≡ Err f
+  next_fault f e =
+      let k = n - (t + 1) in
+      let more : n - t ≡ suc k = omega arith in
+      ap (λ i. left w i r) more
+      ∙ ap (λ q. then q (λ y. then (wires w k (r.place + extent y) (drop (extent y) (drop r.place r.frame.now))) (λ xs. Ok (y ∷ xs)))) e
 
-pub count_stops : (w n t p m : ℕ) (bs : List ℕ) (f : FrameFault) (a : Result ℕ FrameFault) → t < n → first w p bs ≡ Err f → counted m (wires w (n - t) p bs) ≡ a → Err f ≡ a
-count_stops w n t p m bs f a l e h =
-    let s : n - t ≡ suc (n - (t + 1)) = omega arith in
-    sym (count_fault w (n - (t + 1)) p m bs f e) ∙ ap (λ i. counted m (wires w i p bs)) (sym s) ∙ h
+  -- so the count goes on, or is at fault
+  pub count_again : (s : WireReader) (x : Wire) (m j : ℕ) (a : Result ℕ FrameFault) → Read w r x s → j ≡ inserts_of x → counted m (left w (n - t) r) ≡ a → counted (m + j) (left w (n - (t + 1)) s) ≡ a
+  count_again s x m j a e f h =
+      ap (λ i. counted (m + i) (left w (n - (t + 1)) s)) f
+      ∙ sym (ap (counted m) (next_left s x e) ∙ counted_on m x (left w (n - (t + 1)) s))
+      ∙ h
 
--- the bytes that are left reach to the end of the frame
-pub place_again : (p k n : ℕ) (bs : List ℕ) → k ≤ length bs → p + length bs ≡ n → p + k + length (take (length bs - k) (drop k bs)) ≡ n
-place_again p k n bs l h = omega (arith, ap length (take_rest bs k), length-drop k bs)
+  pub count_stops : (m : ℕ) (f : FrameFault) (a : Result ℕ FrameFault) → due w r ≡ Err f → counted m (left w (n - t) r) ≡ a → Err f ≡ a
+  count_stops m f a e h = sym (ap (counted m) (next_fault f e)) ∙ h
 
--- Where all is well, the instructions that are left.
+  -- where all is well, one instruction less is left, and none is at fault
+  pub left_again : (s : WireReader) (x : Wire) (ws : List Wire) → Read w r x s → left w (n - t) r ≡ Ok ws → (xs : List Wire) × (ws ≡ x ∷ xs) × (left w (n - (t + 1)) s ≡ Ok xs)
+  left_again s x ws e h =
+      let rest = then_ok (left w (n - (t + 1)) s) (λ xs. Ok (x ∷ xs)) ws (sym (next_left s x e) ∙ h) in
+      (rest.0, cc rest.2, rest.1)
 
-wires_next : (w n p : ℕ) (bs : List ℕ) (x : Wire) (ws : List Wire) → first w p bs ≡ Ok x → wires w (suc n) p bs ≡ Ok ws → (xs : List Wire) × (ws ≡ x ∷ xs) × (wires w n (p + extent x) (drop (extent x) bs) ≡ Ok xs)
-wires_next w n p bs x ws e h =
-    let r : then (wires w n (p + extent x) (drop (extent x) bs)) (λ xs. Ok (x ∷ xs)) ≡ Ok ws = ap (λ q. then q (λ y. then (wires w n (p + extent y) (drop (extent y) bs)) (λ xs. Ok (y ∷ xs)))) (sym e) ∙ h in
-    let t = then_ok (wires w n (p + extent x) (drop (extent x) bs)) (λ xs. Ok (x ∷ xs)) ws r in
-    (t.0, cc t.2, t.1)
+  pub left_well : (f : FrameFault) (ws : List Wire) → due w r ≡ Err f → left w (n - t) r ≡ Ok ws → ⊥
+  left_well f ws e h =
+      let z : ◌≡◌ {A = Result (List Wire) FrameFault} (Err f) (Ok ws) = sym (next_fault f e) ∙ h in
+      cc
 
-pub wires_again : (w n t p k : ℕ) (bs : List ℕ) (x : Wire) (ws : List Wire) → t < n → first w p bs ≡ Ok x → k ≡ extent x → wires w (n - t) p bs ≡ Ok ws → (xs : List Wire) × (ws ≡ x ∷ xs) × (wires w (n - (t + 1)) (p + k) (take (length bs - k) (drop k bs)) ≡ Ok xs)
-wires_again w n t p k bs x ws l e g h =
-    let s : suc (n - (t + 1)) ≡ n - t = omega arith in
-    let r = wires_next w (n - (t + 1)) p bs x ws e (ap (λ i. wires w i p bs) s ∙ h) in
-    (r.0, r.1, ap (λ b. wires w (n - (t + 1)) (p + k) b) (take_rest bs k) ∙ ap (λ i. wires w (n - (t + 1)) (p + i) (drop i bs)) g ∙ r.2)
+-- After the last turn.
 
-pub wires_fault : (w n t p : ℕ) (bs : List ℕ) (f : FrameFault) (ws : List Wire) → t < n → first w p bs ≡ Err f → wires w (n - t) p bs ≡ Ok ws → ⊥
-wires_fault w n t p bs f ws l e h =
-    let s : suc (n - (t + 1)) ≡ n - t = omega arith in
-    let r : ◌≡◌ {A = Result (List Wire) FrameFault} (Err f) (Ok ws) = ap (λ q. then q (λ y. then (wires w (n - (t + 1)) (p + extent y) (drop (extent y) bs)) (λ xs. Ok (y ∷ xs)))) (sym e) ∙ ap (λ i. wires w i p bs) s ∙ h in
-    let z : ◌≡◌ {A = ℕ} 0 1 = cc r in
-    absurd (omega arith)
+none_left : (w n t : ℕ) (r : WireReader) → n ≤ t → left w (n - t) r ≡ wires w 0 r.place (drop r.place r.frame.now)
+none_left w n t r l = let e : n - t ≡ 0 = omega arith in ap (λ i. left w i r) e
 
-pub wires_zero : (w p : ℕ) (bs : List ℕ) (ws : List Wire) (b : Bool) → cond b (Ok []) (Err (SpareBytes p)) ≡ Ok ws → ws ≡ []
-wires_zero w p bs ws true h = cc
-wires_zero w p bs ws false h = let z : ◌≡◌ {A = ℕ} 0 1 = cc in absurd (omega arith)
+ended_ok : (w p : ℕ) (bs : List ℕ) (ws : List Wire) → wires w 0 p bs ≡ Ok ws → ws ≡ []
+ended_ok w p bs ws h = grind (arith, nat_tests)
 
-pub wires_end : (w n t p : ℕ) (bs : List ℕ) (ws : List Wire) → n ≤ t → wires w (n - t) p bs ≡ Ok ws → ws ≡ []
-wires_end w n t p bs ws l h =
-    let s : 0 ≡ n - t = omega arith in
-    wires_zero w p bs ws (eqb (length bs) 0) (ap (λ i. wires w i p bs) s ∙ h)
+pub left_none : (w n t : ℕ) (r : WireReader) (ws : List Wire) → n ≤ t → left w (n - t) r ≡ Ok ws → ws ≡ []
+left_none w n t r ws l h = ended_ok w r.place (drop r.place r.frame.now) ws (sym (none_left w n t r l) ∙ h)
 
 -- The delta's check, as the frame is read.
 

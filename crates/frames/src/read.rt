@@ -1,5 +1,5 @@
 // Reading a frame into tables.
-ghost use Rattle.std.specs.Prelude.{◌≡◌, ◌+◌, ◌*◌, ◌<◌, ◌≤◌, length, IfOk};
+ghost use Rattle.std.specs.Prelude.{◌≡◌, ◌+◌, ◌*◌, ◌≤◌, length, IfOk, IsOk};
 ghost use Rattle.std.specs.List.{flat_map};
 ghost use Rattle.std.proofs.lemmas.List.Edits.{sets};
 ghost use Rattle.deltas.specs.Check.{parts};
@@ -9,10 +9,11 @@ ghost use Rattle.frames.specs.Instructions.{shown, inserts_of};
 ghost use Rattle.frames.specs.Reading.{units_in, units_of_wire, entries, inserts_in, parsed_frame};
 ghost use Rattle.frames.specs.Writing.{encoded};
 ghost use Rattle.frames.specs.Outcomes.{read_answer, held};
-ghost use Rattle.frames.specs.Steps.{wires_in, Frames, Sized};
+ghost use Rattle.frames.specs.Steps.{left, wires_in, Sized};
 
 use crate::check::check_frame;
-use crate::wire::{WireInstruction, first_instruction};
+use crate::reader::WireReader;
+use crate::wire::WireInstruction;
 use deltas::{Head, Instruction, blank_rest};
 use faults::ReadFault;
 use units::WireUnit;
@@ -22,11 +23,11 @@ fn read_units<U: WireUnit>(bytes: &[u8], out: &mut [U])
     requires { length bytes.now ≡ length out.old * U.WIDTH }
     ensures { out.new ≡ units_in U.code (length out.old) bytes.now }
 {
-    let width = U::WIDTH;
     let mut rest = bytes;
-    for i in 0..out.len() {
-        out[i] = U::read(&rest[0..width]);
-        rest = &rest[width..];
+    for unit in out {
+        let (own, after) = rest.split_at(U::WIDTH);
+        *unit = U::read(own);
+        rest = after;
     }
 }
 
@@ -50,32 +51,33 @@ fn store_units<U: WireUnit>(wire: &WireInstruction, units: &mut [U], at: usize) 
     }
 }
 
-// Writes the delta in a frame to the front of two tables.
-fn fill<U: WireUnit>(frame: &[u8], count: usize, instructions: &mut [Instruction], units: &mut [U])
-    requires stands { Frames U.WIDTH count frame.now }
-    requires few { inserts_in (wires_in U.WIDTH count frame.now) ≤ 65535 }
+// Writes the delta whose instructions are left to the front of two tables.
+fn fill<U: WireUnit>(
+    mut reader: WireReader,
+    count: usize,
+    instructions: &mut [Instruction],
+    units: &mut [U],
+)
+    requires stands { IsOk (left U.WIDTH count reader) }
+    requires few { inserts_in (wires_in U.WIDTH count reader) ≤ 65535 }
     requires instructions { count ≤ length instructions.old }
-    requires units { inserts_in (wires_in U.WIDTH count frame.now) ≤ length units.old }
-    ensures instructions { instructions.new ≡ sets instructions.old 0 (entries 0 (wires_in U.WIDTH count frame.now)) }
-    ensures units { units.new ≡ sets units.old 0 (flat_map (units_of_wire U.code) (wires_in U.WIDTH count frame.now)) }
+    requires units { inserts_in (wires_in U.WIDTH count reader) ≤ length units.old }
+    ensures instructions { instructions.new ≡ sets instructions.old 0 (entries 0 (wires_in U.WIDTH count reader.entry)) }
+    ensures units { units.new ≡ sets units.old 0 (flat_map (units_of_wire U.code) (wires_in U.WIDTH count reader.entry)) }
 {
-    let width = U::WIDTH;
-    let mut rest = &frame[12..];
-    let mut place = 12;
     let mut inserted = 0;
-    for index in 0..count {
-        let Ok((wire, extent)) = first_instruction(rest, place, width) else {
+    for entry in &mut instructions[0..count] {
+        // None of those that are left is at fault.
+        let Ok(wire) = reader.next_instruction::<U>() else {
             return;
         };
-        instructions[index] = wire.entry(inserted as u16);
+        *entry = wire.entry(inserted as u16);
         inserted = store_units(&wire, units, inserted);
-        place += extent;
-        rest = &rest[extent..];
     }
 }
 
 // Reads a frame into two tables: the delta in their first entries, and blanks in all the others. Answers
-// the delta's head. A refusal writes nothing.
+// the delta's head. A refusal writes nothing. The tables are two slices, as callers lend them.
 pub fn read_frame<U: WireUnit>(
     frame: &[u8],
     instructions: &mut [Instruction],
@@ -95,7 +97,7 @@ pub fn read_frame<U: WireUnit>(
     if units.len() < inserted {
         return Err(ReadFault::Short(inserted));
     }
-    fill(frame, count, instructions, units);
+    fill(WireReader::new(frame), count, instructions, units);
     blank_rest(instructions, count, Instruction::blank());
     blank_rest(units, inserted, U::blank());
     Ok(head)

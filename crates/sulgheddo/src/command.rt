@@ -71,6 +71,7 @@ impl<U: TextUnit> Command<U> {
         }))
     }
 
+    // The word behind the first delta, in three cases, none of which passes a result on.
     fn read_combine(words: &mut Words<'_>) -> Result<Command<U>, LineError> {
         let earlier = OwnedDelta::read(words)?;
         match words.at() {

@@ -1,8 +1,9 @@
-use std::alloc::{AllocError, AllocFailed};
+use std::alloc::AllocError;
 use std::{fmt, io};
+use thiserror::Error;
 
 // What a word of a line says.
-#[derive(Clone, Copy)]
+#[derive(Clone, Copy, Debug)]
 pub enum Field {
     Kind,
     What,
@@ -20,53 +21,47 @@ pub enum Field {
 }
 
 // Why a line ended the run. Most cases are about one word of the line, the one that was read last.
-#[derive(Clone, Copy)]
+#[derive(Clone, Copy, Debug, Error)]
 pub enum LineError {
     // the word means nothing where it stands
+    #[error("unknown word")]
     Unknown,
     // the line ends where this should stand
+    #[error("{0} is missing")]
     Missing(Field),
     // a word more than the command takes
+    #[error("spare word")]
     Spare,
     // this should stand there, and it is no number
+    #[error("{0} is not a number")]
     NotNumber(Field),
     // the number does not fit this
+    #[error("{0} does not fit")]
     Unfit(Field),
     // two hexadecimal digits make a byte, and one digit is left over
+    #[error("an odd digit")]
     OddDigit,
     // not hexadecimal digits
+    #[error("not hexadecimal")]
     NotHexadecimal,
     // not DAY:AMOUNT
+    #[error("not DAY:AMOUNT")]
     NotCashflow,
     // more units than the length of one instruction can say
+    #[error("more than 65535 units")]
     LongInsert,
     // the line could not be read
+    #[error("cannot be read: {0}")]
     Unread(io::Error),
-    // an answer could not be printed
-    Unprinted(io::Error),
+    // an answer could not be printed: the `?` after printing. What fails where a line is read does not come this way.
+    #[error("cannot be printed: {0}")]
+    Unprinted(#[from] io::Error),
     // there is no memory left
-    Memory,
+    #[error("out of memory")]
+    Memory(#[from(alloc)] AllocError),
 }
 
-impl From<AllocError> for LineError {
-    fn from(_error: AllocError) -> LineError {
-        LineError::Memory
-    }
-}
-
-impl<T: Drop> From<AllocFailed<T>> for LineError {
-    fn from(_refused: AllocFailed<T>) -> LineError {
-        LineError::Memory
-    }
-}
-
-// The `?` after printing: what fails where a line is read does not come this way.
-impl From<io::Error> for LineError {
-    fn from(error: io::Error) -> LineError {
-        LineError::Unprinted(error)
-    }
-}
-
+// By hand, since a derive writes texts for errors alone.
 impl fmt::Display for Field {
     fn fmt<W: fmt::Write>(&self, f: &mut fmt::Formatter<W>) -> fmt::Result {
         f.write_str(match self {
@@ -84,24 +79,5 @@ impl fmt::Display for Field {
             Field::Then => "then",
             Field::Frame => "FRAME",
         })
-    }
-}
-
-impl fmt::Display for LineError {
-    fn fmt<W: fmt::Write>(&self, f: &mut fmt::Formatter<W>) -> fmt::Result {
-        match *self {
-            LineError::Unknown => f.write_str("unknown word"),
-            LineError::Missing(field) => write!(f, "{field} is missing"),
-            LineError::Spare => f.write_str("spare word"),
-            LineError::NotNumber(field) => write!(f, "{field} is not a number"),
-            LineError::Unfit(field) => write!(f, "{field} does not fit"),
-            LineError::OddDigit => f.write_str("an odd digit"),
-            LineError::NotHexadecimal => f.write_str("not hexadecimal"),
-            LineError::NotCashflow => f.write_str("not DAY:AMOUNT"),
-            LineError::LongInsert => f.write_str("more than 65535 units"),
-            LineError::Unread(error) => write!(f, "cannot be read: {error}"),
-            LineError::Unprinted(error) => write!(f, "cannot be printed: {error}"),
-            LineError::Memory => f.write_str("out of memory"),
-        }
     }
 }

@@ -11,6 +11,7 @@ use crate::words::Words;
 use deltas::{PairFault, Side};
 use std::alloc::{AllocError, Global};
 use std::{fmt, io};
+use units::Refusal;
 
 // What another kind of unit leaves as it is.
 #[derive(Clone, Copy)]
@@ -96,7 +97,7 @@ impl<U: TextUnit> Session<U> {
         let answer = answer
             .as_ref()
             .map(|frame| Units(frame.as_slice()))
-            .map_err(|fault| fault.refusal());
+            .map_err(|fault| Refusal::from(*fault));
         self.kept.tally.count(rt, "frame", answer)?;
         Ok(())
     }
@@ -106,7 +107,7 @@ impl<U: TextUnit> Session<U> {
             .output
             .parse(frame)
             .map(|head| Shown(self.output.delta(head)))
-            .map_err(|fault| fault.refusal());
+            .map_err(Refusal::from);
         self.kept.tally.count(rt, "parse", answer)
     }
 
@@ -122,7 +123,7 @@ struct PairRefusal(PairFault);
 
 impl fmt::Display for PairRefusal {
     fn fmt<W: fmt::Write>(&self, f: &mut fmt::Formatter<W>) -> fmt::Result {
-        write!(f, "{}", self.0.refusal())?;
+        write!(f, "{}", Refusal::from(self.0))?;
         match self.0.side() {
             Some(Side::Earlier) => f.write_str(", earlier"),
             Some(Side::Later) => f.write_str(", later"),

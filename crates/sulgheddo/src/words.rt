@@ -17,6 +17,8 @@ pub struct Words<'a> {
     rest: &'a str,
 }
 
+// What reads a word says that no more is left than before. That is a fact about two states, which no invariant of one
+// value can say, so each of these functions says it.
 impl<'a> Words<'a> {
     pub(crate) fn new(heap: Global, line: &'a str) -> Words<'a>
         ensures at { result.at ≡ None }

@@ -89,6 +89,7 @@ fn a_frame_of_an_unlawful_delta_is_refused_as_the_delta_is(rt: HostRuntime) -> R
 fn every_truncation_is_refused(rt: HostRuntime) -> Result<(), Fail> {
     let all = bytes(rt.alloc(), LONG)?;
     let frame = all.as_slice();
+    // by its end, since a front of the frame is read at each turn
     for end in 0..frame.len() {
         let place = if end < 12 { 0 } else { 1 };
         refuses(&rt, &frame[0..end], refusal(1, Layer::Frame, place))?;
@@ -138,7 +139,7 @@ fn unwritten(rt: &impl Abort, source: u16, size: usize) -> Result<Option<Refusal
         Ok(_) => Ok(None),
         Err(fault) => {
             assert_eq!(rt; out, [7; 32]);
-            Ok(Some(fault.refusal()))
+            Ok(Some(Refusal::from(fault)))
         }
     }
 }

@@ -47,7 +47,7 @@ fn refused(
     let fault = fault_of(rt, entries, more, |instructions, units| {
         combine(earlier, later, instructions, units)
     })?;
-    Ok(fault.map(|fault| (fault.refusal(), fault.side())))
+    Ok(fault.map(|fault| (Refusal::from(fault), fault.side())))
 }
 
 #[test]

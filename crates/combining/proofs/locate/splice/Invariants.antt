@@ -1,15 +1,16 @@
 use Rattle.std.proofs.Common.{◌+◌, ◌-◌, ◌<◌, ◌≤◌, take, drop}
-use Rattle.deltas.specs.Origins.{origins}
-use Rattle.combining.specs.Steps.{Space, Appended, place_at, Located}
+use Rattle.deltas.specs.LawfulDeltas.{lawful_parts}
+use Rattle.deltas.specs.Origins.{origins_of}
+use Rattle.combining.specs.Steps.{Space, Appended, Located}
 use Rattle.combining.proofs.locate.splice.Given as goal
 
--- so many places are written, and the next one, if any is left, is found
-abbrev pub invariant-loop-left : goal.invariant-loop-left
-invariant-loop-left g l =
-    (l.left ≤ l.count)
-    × (0 < l.left → Located l.instructions (place_at l.instructions l.initial.index l.initial.offset + (l.count - l.left)) l.index l.offset)
-    × Space l.out l.units l.written l.left
-    × Appended (take (l.count - l.left) (drop (place_at l.instructions l.initial.index l.initial.offset) (origins l.source l.instructions))) l.initial.out l.initial.units l.initial.written l.out l.units l.written
-
-abbrev pub decreases-loop-left : goal.decreases-loop-left
-decreases-loop-left g l = l.left
+-- so many places are written, and the next one, if any is wanted, is found
+abbrev pub invariant-loop-next : goal.invariant-loop-next
+invariant-loop-next g l =
+    record {
+      some : 0 < l.wanted;
+      within : l.wanted ≤ l.count;
+      located : Located l.delta.instructions.now (l.place + (l.count - l.wanted)) (l.index + l.next-index) l.offset;
+      space : Space l.output l.wanted;
+      appended : Appended (take (l.count - l.wanted) (drop l.place (origins_of (lawful_parts l.delta)))) l.initial.output l.output;
+    }

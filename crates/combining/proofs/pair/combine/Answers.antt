@@ -1,58 +1,35 @@
-use Rattle.std.proofs.Common.{◌-◌, length, take, Ok, sym, ap, ◌∙◌, subst, arith}
-use Rattle.deltas.specs.Instructions.{blank_instruction}
+use Rattle.std.proofs.Common.{rules, length, Ok, refl, sym, ap, ◌∙◌, subst, arith}
 use Rattle.deltas.specs.Check.{parts_of}
-use Rattle.deltas.specs.Origins.{inserts}
-use Rattle.combining.specs.Normal.{runs}
-use Rattle.combining.specs.Combine.{combined_origins}
-use Rattle.deltas.specs.Places.{Fits}
-use Rattle.std.specs.List.{AllByRecursion}
 use Rattle.deltas.proofs.Sound.{passed_any}
-use Rattle.combining.proofs.Outputs.{filled, ready, ready_total, ready_few, combine_whole, head_is, answer_ok, holds}
+use Rattle.combining.specs.Combine.{Meet, combined_origins}
+use Rattle.combining.specs.Steps.{Appended}
+use Rattle.combining.proofs.Own.{own_pair_means, at_kept}
+use Rattle.combining.proofs.Outputs.{long_enough, finished, answer_ok}
 use Rattle.combining.proofs.Replacing.{combining_is_replace}
 use Rattle.combining.proofs.Theorems.{length_combined, within_combined}
-use Rattle.combining.specs.Outcomes.{Holds}
 use Rattle.combining.proofs.pair.combine.Goals as goal
-
-pub write_combined-written-requires : goal.write_combined-written-requires
-write_combined-written-requires g c =
-    let a = parts_of c.args.earlier.now in
-    let b = parts_of c.args.later.now in
-    let la = passed_any a _ (sym c.in-Ok.ensures) in
-    let lb = passed_any b _ (sym c.in-Ok-check.ensures) in
-    let t = ready_total b lb in
-    record {
-      earlier = ready a 65535 la (grind arith);
-      few = ready_few a la;
-      later = subst (λ n. AllByRecursion (Fits n (length (take (b.head.inserted - 0) b.units))) (take (b.head.instructions - 0) b.table)) (sym c.if-first-second.false ∙ sym (ready_total a la)) (ready b b.head.source lb (omega arith));
-      space = record { instructions = omega arith; inserted = omega arith; places = omega arith; numbers = omega arith };
-    }
-
-pub finish-requires : goal.finish-requires
-finish-requires g c =
-    let lb = passed_any (parts_of c.args.later.now) _ (sym c.in-Ok-check.ensures) in
-    let done = combine_whole (parts_of c.args.earlier.now) (parts_of c.args.later.now) c.args.out_instructions.now c.write_combined-written.new.out c.args.out_units.now c.write_combined-written.new.units c.write_combined-written.result lb c.write_combined-written.ensures (omega arith) (omega arith) in
-    record { instructions = done.fits_out; units = done.fits_units }
 
 pub returns : goal.returns
 returns g c =
     let a = parts_of c.args.earlier.now in
     let b = parts_of c.args.later.now in
-    let os = combined_origins a b in
-    let w = c.write_combined-written.result in
-    let out = c.write_combined-written.new.out in
-    let us = c.write_combined-written.new.units in
-    let la = passed_any a _ (sym c.in-Ok.ensures) in
-    let lb = passed_any b _ (sym c.in-Ok-check.ensures) in
-    let long = length_combined a b lb in
-    let done = combine_whole a b c.args.out_instructions.now out c.args.out_units.now us w lb c.write_combined-written.ensures (omega arith) (omega arith) in
-    let head = c.finish.ensures.head ∙ head_is os a.head.source b.head.target w.instructions w.inserted (sym long) done.count done.inserted in
-    let table = c.finish.ensures.instructions ∙ filled c.args.out_instructions.now out (runs os) w.instructions blank_instruction done.instructions done.count (omega arith) in
-    let own = c.finish.ensures.units ∙ filled c.args.out_units.now us (inserts os) w.inserted g.U.Unit.blank done.units done.inserted (omega arith) in
+    let own_a = at_kept _ _ c.in_ok-earlier.earlier _ _ refl c.lawful.ensures c.in_ok-earlier.ensures.cases in
+    let own_b = at_kept _ _ c.in_ok-later.later _ _ refl c.lawful-2.ensures c.in_ok-later.ensures.cases in
+    let la = passed_any a _ own_a.0 in
+    let lb = passed_any b _ own_b.0 in
+    let ha = ap (λ p. p.head) own_a.1 in
+    let hb = ap (λ p. p.head) own_b.1 in
+    let meet : Meet a b = sym (ap (λ h. h.target) ha) ∙ c.if-earlier-later.false ∙ ap (λ h. h.source) hb in
+    let target = ap (λ h. h.target) hb in
+    let none = c.new-output.ensures in
+    let entries = ap (λ m. length m.now) none.instructions in
+    let room = ap (λ m. length m.now) none.units in
+    let enough = long_enough c.in_ok-later.later.head.target (length c.new-output.result.instructions.now) (length c.new-output.result.units.now) (sym c.is_short.ensures ∙ c.if-is_short.false) in
+    let wrote = subst (λ os. Appended os c.new-output.result c.write_combined.new.output) (own_pair_means c.in_ok-earlier.earlier c.in_ok-later.later a b own_a.1 own_b.1) c.write_combined.ensures in
+    let done = finished g.U.Unit.blank a.head.source _ _ _ _ (combined_origins a b) _ _ _ none.count none.inserted entries room wrote c.finish.ensures.head (ap (λ h. h.source) ha) (length_combined a b lb ∙ sym target) c.in_ok-later.later.target (omega (arith, enough.0)) (omega (arith, enough.1)) (within_combined a b la lb meet) in
     record {
-      answer = ap Ok head
-          ∙ answer_ok a b (length c.args.out_instructions.now) (length c.args.out_units.now) _ _ c.in-Ok.ensures c.in-Ok-check.ensures c.if-first-second.false (omega arith) (omega arith);
-      instructions = table;
-      units = own;
-      meaning = subst (λ ps. Holds c.finish.result c.finish.new.out c.finish.new.units a.head.source ps) (sym (combining_is_replace _ a b la lb c.if-first-second.false).0)
-          (holds a.head.source os c.finish.result c.finish.new.out _ c.finish.new.units _ head table own (omega arith) (within_combined a b la lb c.if-first-second.false));
+      answer = ap Ok done.head ∙ answer_ok a b (length c.args.out_instructions.now) (length c.args.out_units.now) _ _ (sym own_a.0) (sym own_b.0) meet (omega (arith, enough.0)) (omega (arith, enough.1));
+      instructions = done.instructions _ (search rules);
+      units = done.units _ (search rules);
+      meaning = done.holds _ _ _ (combining_is_replace _ a b la lb meet).0 (search rules) (search rules);
     }

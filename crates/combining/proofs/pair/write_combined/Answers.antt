@@ -1,52 +1,47 @@
-use Rattle.std.proofs.Common.{◌≡◌, ◌+◌, ◌-◌, length, get_or, take, sym, ◌∙◌, subst, arith}
-use Rattle.std.proofs.ByRecursion.{All-get_or}
+use Rattle.std.proofs.Common.{get_or, sym, ap, ◌∙◌, subst, le_of_eq, arith}
 use Rattle.std.proofs.lemmas.List.{take_all, length-map}
 use Rattle.deltas.specs.Instructions.{blank_instruction}
-use Rattle.deltas.specs.Origins.{piece, origins}
+use Rattle.deltas.specs.LawfulDeltas.{lawful_parts}
+use Rattle.deltas.specs.Origins.{piece, origins, origins_of}
 use Rattle.combining.specs.Combine.{origin_through, through}
-use Rattle.deltas.specs.Places.{total, Fits}
-use Rattle.combining.specs.Steps.{nothing_written, Appended}
-use Rattle.combining.proofs.Pieces.{total_more, total_front}
-use Rattle.deltas.proofs.Sound.{length_piece}
+use Rattle.combining.specs.Steps.{Appended}
+use Rattle.combining.proofs.Own.{own_origins, own_total}
+use Rattle.combining.proofs.Pieces.{next}
 use Rattle.combining.proofs.Through.{through_more}
-use Rattle.combining.proofs.Writes.{appended_then, space_left, space_less}
+use Rattle.combining.proofs.Writes.{appended_none, appended_then, space_left, space_less}
 use Rattle.combining.proofs.pair.write_combined.Goals as goal
 
-pub combine_instruction-progress-requires : goal.combine_instruction-progress-requires
-combine_instruction-progress-requires g c =
-    let later = c.args.later.now in
-    let k = c.loop-next.next-index in
-    let i = get_or later k blank_instruction in
-    let more = total_more later k (omega arith) in
-    let front = total_front later (k + 1) in
+pub loop-next-init : goal.loop-next-init
+loop-next-init g c =
     record {
-      earlier = c.requires.earlier;
-      few = c.requires.few;
-      fits = All-get_or (Fits (total c.args.earlier.now) (length c.args.inserted.now)) later k blank_instruction (omega arith) c.requires.later;
-      space = space_less _ _ _ (total later - total (take k later)) i.length (omega arith) c.loop-next.invariant.0;
-      standing = c.loop-next.invariant.2;
+      same_delta = c.new-cursor.ensures.same_delta;
+      space = space_less _ (omega (arith, own_total c.args.later.now)) c.requires.space;
+      appended = appended_none _;
     }
+
+pub combine_instruction-requires : goal.combine_instruction-requires
+combine_instruction-requires g c =
+    let i = next c.args.later.now c.loop-next.next-index (omega arith) in
+    let source = sym c.requires.meet ∙ ap (λ d. d.head.target) (sym c.loop-next.invariant.same_delta) in
+    record { fits = i.fits c.loop-next.cursor.delta.now.head.target (le_of_eq source); space = space_less _ (omega (arith, i.room)) c.loop-next.invariant.space }
 
 pub loop-next-preserved : goal.loop-next-preserved
 loop-next-preserved g c =
     let later = c.args.later.now in
-    let us = c.args.inserted.now in
-    let es = origins c.args.source.now c.args.earlier.now in
+    let es = origins_of (lawful_parts c.args.earlier.now) in
     let k = c.loop-next.next-index in
-    let i = get_or later k blank_instruction in
-    let more = total_more later k (omega arith) in
-    let front = total_front later (k + 1) in
-    let s = total c.args.earlier.now in
-    let fits = All-get_or (Fits s (length us)) later k blank_instruction (omega arith) c.requires.later in
-    let long : length (through es (piece us i)) ≡ i.length = length-map (piece us i) (origin_through es) ∙ length_piece us i s (length us) fits (omega arith) in
-    let room : total later - total (take k later) ≡ length (through es (piece us i)) + (total later - total (take (k + 1) later)) = omega arith in (
-      space_left (through es (piece us i)) _ _ _ _ _ _ (total later - total (take k later)) (total later - total (take (k + 1) later)) room (omega arith) (omega arith) c.combine_instruction-progress.ensures.appended c.loop-next.invariant.0,
-      subst (λ os. Appended os c.args.out.now c.args.units.now nothing_written c.combine_instruction-progress.new.out c.combine_instruction-progress.new.units c.combine_instruction-progress.result.written) (sym (through_more es us later k (omega arith)))
-          (appended_then _ _ _ _ _ _ _ _ _ _ _ c.loop-next.invariant.1 c.combine_instruction-progress.ensures.appended),
-      c.combine_instruction-progress.ensures.standing,
-    )
+    let i = next later k (omega arith) in
+    let given = piece later.units.now (get_or later.instructions.now k blank_instruction) in
+    let done = subst (λ d. Appended (through (origins_of (lawful_parts d)) given) c.loop-next.output c.combine_instruction.new.output) c.loop-next.invariant.same_delta c.combine_instruction.ensures.appended in
+    record {
+      same_delta = c.combine_instruction.ensures.same_delta ∙ c.loop-next.invariant.same_delta;
+      space = space_left _ _ (omega (arith, length-map given (origin_through es), i.long, i.room)) done c.loop-next.invariant.space;
+      appended = subst (λ os. Appended os c.args.output.now c.combine_instruction.new.output) (sym (through_more es later.units.now later.instructions.now k (omega arith))) (appended_then c.loop-next.invariant.appended done);
+    }
 
 pub returns : goal.returns
 returns g c =
-    let es = origins c.args.source.now c.args.earlier.now in
-    subst (λ is. Appended (through es (origins c.args.inserted.now is)) c.args.out.now c.args.units.now nothing_written c.loop-next.out c.loop-next.units c.loop-next.progress.written) (take_all c.loop-next.next-index c.args.later.now (omega arith)) c.loop-next.invariant.1
+    let es = origins_of (lawful_parts c.args.earlier.now) in
+    let later = c.args.later.now in
+    subst (λ os. Appended (through es os) c.args.output.now c.loop-next.output)
+    (ap (origins later.units.now) (take_all c.loop-next.next-index later.instructions.now (omega arith)) ∙ sym (own_origins later)) c.loop-next.invariant.appended

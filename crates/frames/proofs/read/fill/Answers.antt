@@ -1,48 +1,55 @@
-use Rattle.std.proofs.Common.{length, refl, ap, ◌∙◌, subst, arith}
+use Rattle.std.proofs.Common.{◌-◌, take, refl, sym, ap, ◌∙◌, arith}
 use native.Mathlib.Nat.{sub-zero}
-use Rattle.std.proofs.lemmas.List.{take_rest, length-drop}
+use Rattle.std.proofs.lemmas.List.{length-take-le}
+use Rattle.std.proofs.lemmas.List.Edits.{sets}
 use Rattle.frames.specs.Instructions.{shown}
-use Rattle.frames.specs.Reading.{units_of_wire, inserts_in}
-use Rattle.frames.specs.Steps.{Sized, wires_in}
-use Rattle.frames.proofs.Walks.{wires_again, wires_fault, place_again}
-use Rattle.frames.proofs.Filling.{entries_again, stored_again, length_sets, first_sized}
+use Rattle.frames.specs.Reading.{entries, inserts_in}
+use Rattle.frames.specs.Steps.{wires_in}
+use Rattle.frames.proofs.Tables.{length_entries}
+use Rattle.frames.proofs.Wires.{wires_fit}
+use Rattle.frames.proofs.Walks.{left_ok, left_again, left_well, left_none}
+use Rattle.frames.proofs.Filling.{entries_again, stored_again, sets_whole, put_sets, read_sized}
 use Rattle.frames.proofs.read.fill.Goals as goal
 
-pub loop-index-init : goal.loop-index-init
-loop-index-init g c = (
-  wires_in g.U.WireUnit.WIDTH c.args.count c.args.frame.now,
-  rw (take_rest c.args.frame.now 12, sub-zero c.args.count, c.WIDTH-width.ensures) c.requires.stands.stands,
-  refl,
-  refl,
-  omega arith,
-  omega (arith, ap length (take_rest c.args.frame.now 12), length-drop 12 c.args.frame.now, c.requires.stands.opened),
-  refl,
-)
+pub loop-entry-init : goal.loop-entry-init
+loop-entry-init g c =
+    let xs = wires_in g.U.WireUnit.WIDTH c.args.count c.args.reader in
+    let n = (wires_fit g.U.WireUnit.WIDTH c.args.count c.args.reader.place _ xs (left_ok _ _ c.args.reader c.requires.stands)).0 in
+    rw (sub-zero c.args.count) (
+      xs,
+      (left_ok _ _ c.args.reader c.requires.stands),
+      sets_whole (entries 0 xs) (take c.args.count c.args.instructions.now) (length_entries 0 xs ∙ n ∙ omega (arith, length-take-le c.args.count c.args.instructions.now c.requires.instructions)),
+      refl,
+      omega arith,
+    )
 
 pub returns-in_default : goal.returns-in_default
-returns-in_default g c =
-    absurd (wires_fault c.WIDTH-width.result c.args.count c.loop-index.index c.loop-index.place c.loop-index.rest.now _ c.loop-index.invariant.0 (omega arith) c.in_default.ensures c.loop-index.invariant.1)
+returns-in_default g c = absurd (left_well _ c.args.count c.loop-entry.entry-index c.loop-entry.reader (omega arith) _ c.loop-entry.invariant.0 c.in_default.ensures c.loop-entry.invariant.1)
 
 pub store_units-inserted-requires : goal.store_units-inserted-requires
 store_units-inserted-requires g c =
-    let e = c.in-Ok.ensures in
-    let n = wires_again c.WIDTH-width.result c.args.count c.loop-index.index c.loop-index.place c.in-Ok.extent c.loop-index.rest.now (shown c.in-Ok.wire) c.loop-index.invariant.0 (omega arith) e.0 e.1 c.loop-index.invariant.1 in
+    let n = left_again _ c.args.count c.loop-entry.entry-index c.loop-entry.reader (omega arith) _ (shown c.in-Ok.wire) c.loop-entry.invariant.0 c.in-Ok.ensures c.loop-entry.invariant.1 in
     record {
-      sized = subst (λ w. Sized w (shown c.in-Ok.wire)) c.WIDTH-width.ensures (first_sized c.WIDTH-width.result c.loop-index.place c.loop-index.rest.now (shown c.in-Ok.wire) e.0);
-      room = omega (arith, ap inserts_in n.1, c.loop-index.invariant.4, c.loop-index.invariant.6, c.requires.units);
+      sized = read_sized g.U.WireUnit.WIDTH c.loop-entry.reader _ (shown c.in-Ok.wire) c.in-Ok.ensures;
+      room = omega (arith, ap inserts_in n.1, c.loop-entry.invariant.4, c.requires.units);
     }
 
-pub loop-index-preserved : goal.loop-index-preserved
-loop-index-preserved g c =
-    let e = c.in-Ok.ensures in
+pub loop-entry-preserved : goal.loop-entry-preserved
+loop-entry-preserved g c =
     let x = shown c.in-Ok.wire in
-    let n = wires_again c.WIDTH-width.result c.args.count c.loop-index.index c.loop-index.place c.in-Ok.extent c.loop-index.rest.now x c.loop-index.invariant.0 (omega arith) e.0 e.1 c.loop-index.invariant.1 in
+    let n = left_again _ c.args.count c.loop-entry.entry-index c.loop-entry.reader (omega arith) _ x c.loop-entry.invariant.0 c.in-Ok.ensures c.loop-entry.invariant.1 in
     rw c.store_units-inserted.ensures.end (
       n.0,
       n.2,
-      entries_again c.loop-index.instructions c.loop-index.index c.loop-index.inserted _ c.entry.result x c.loop-index.invariant.0 n.0 _ c.entry.ensures (omega (arith, c.loop-index.invariant.4)) n.1 c.loop-index.invariant.2,
-      stored_again g.U.WireUnit.code c.loop-index.units _ c.loop-index.inserted x c.loop-index.invariant.0 n.0 _ c.store_units-inserted.ensures.units n.1 c.loop-index.invariant.3,
-      omega (arith, ap inserts_in n.1, c.loop-index.invariant.4),
-      place_again c.loop-index.place c.in-Ok.extent _ c.loop-index.rest.now e.2 c.loop-index.invariant.5,
-      ap length c.store_units-inserted.ensures.units ∙ length_sets (units_of_wire g.U.WireUnit.code x) c.loop-index.units c.loop-index.inserted ∙ c.loop-index.invariant.6,
+      entries_again c.loop-entry.entry-items c.loop-entry.entry-index c.loop-entry.inserted _ c.entry.result x c.loop-entry.invariant.0 n.0 _ c.entry.ensures (omega (arith, c.loop-entry.invariant.4)) n.1 c.loop-entry.invariant.2,
+      stored_again g.U.WireUnit.code c.loop-entry.units _ c.loop-entry.inserted x c.loop-entry.invariant.0 n.0 _ c.store_units-inserted.ensures.units n.1 c.loop-entry.invariant.3,
+      omega (arith, ap inserts_in n.1, c.loop-entry.invariant.4),
     )
+
+pub returns-clause-instructions : goal.returns-clause-instructions
+returns-clause-instructions g c =
+    let xs = wires_in g.U.WireUnit.WIDTH c.args.count c.args.reader in
+    let n = length_entries 0 xs ∙ (wires_fit g.U.WireUnit.WIDTH c.args.count c.args.reader.place _ xs (left_ok _ _ c.args.reader c.requires.stands)).0 in
+    let none = left_none g.U.WireUnit.WIDTH c.args.count c.loop-entry.entry-index c.loop-entry.reader c.loop-entry.invariant.0 (omega (arith, length-take-le c.args.count c.args.instructions.now c.requires.instructions)) c.loop-entry.invariant.1 in
+    put_sets 0 (c.args.count - 0) c.args.instructions.now c.loop-entry.entry-items (entries 0 xs)
+    (ap (λ ws. sets c.loop-entry.entry-items c.loop-entry.entry-index (entries c.loop-entry.inserted ws)) (sym none) ∙ c.loop-entry.invariant.2) (omega arith) (omega arith)

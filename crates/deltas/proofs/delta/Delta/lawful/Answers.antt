@@ -27,10 +27,14 @@ invariant_of-result g c =
     let p = f.0 in
     let e = ap (λ h. h.instructions) f.1 in
     let j = ap (λ h. h.inserted) f.1 in
+    let s = ap (λ h. h.source) f.1 in
+    let t = ap (λ h. h.target) f.1 in
     record {
       count = length-take-le (c.in_ok-head.head.instructions - 0) d.table (omega arith) ∙ sub-zero c.in_ok-head.head.instructions;
       inserted = length-take-le (c.in_ok-head.head.inserted - 0) d.units (omega arith) ∙ sub-zero c.in_ok-head.head.inserted;
       lawful = subst Lawful (sym (own_is d c.in_ok-head.head f.1)) (own_lawful d (passed_any d c.in_ok-head.head (sym c.in_ok-head.ensures)));
+      source = omega arith;
+      target = omega arith;
     }
 
 pub returns : goal.returns
