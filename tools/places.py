@@ -53,7 +53,7 @@ def lines(pattern):
 
 def functions_of(s):
     """Each function's name, parameters and body; a clause stands on one line, a body does not begin on a clause's."""
-    for m in re.finditer(r"\bfn (\w+)(?:<[^(]*>)?\(", s):
+    for m in re.finditer(r"\bfn (\w+)(?:<(?:[^()<>]|\([^()]*\)|->|<[^<>]*>)*>)?\(", s):
         depth, i = 1, m.end()
         while depth:
             depth += {"(": 1, ")": -1}.get(s[i], 0)
@@ -75,7 +75,7 @@ functions = [(n, *f) for n, s in sorted(sources.items()) for f in functions_of(s
 say("1a enums, to read for the shape of Option or Result", lines(r"^\s*(pub(\(crate\))? )?enum "))
 say(
     "1b arms that pass a result on",
-    lines(r"(Err\(\w+\) => (return )?Err\b)|(None => (return )?Err\b)|(Ok\(_\) => \{\})|(Ok\(\(\)\) => Ok)|(Some\(\w+\) => (Ok|Some)\()|(Err\(\w+\) => Some\()|(Ok\(_\) => None)"),
+    lines(r"(Err\(\w+\) => (return )?Err\b)|(None => (return )?Err\b)|(Ok\(_\) => \{\})|(Ok\(\(\)\) => Ok)|(Some\(\w+\) => (Ok|Some)\()|(Err\(\w+\) => Some\()|(Ok\(_\) => (Ok\()?None)"),
 )
 say("1c flags, results in results, functions that answer a number of a kind", lines(r"let mut \w+ = (true|false);|Result<Result|fn \w*kind\w*\([^)]*\) -> u\d"))
 

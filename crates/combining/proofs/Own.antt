@@ -14,17 +14,20 @@ use Rattle.deltas.specs.Places.{total, Inside, Fits}
 use Rattle.combining.specs.Combine.{through, combined_origins}
 use Rattle.deltas.proofs.Sound.{passed, lawful_fits}
 
+-- what lies in a source lies in a longer one
 inside_more : (s t m : ℕ) (o : Op) (p n : ℕ) → s ≤ t → Inside s m o p n → Inside t m o p n
 inside_more s t m Copy p n l h = omega arith
 inside_more s t m Insert p n l h = h
 
 module _ {U : Type 0} (d : LawfulDelta U) where
+  -- the entries of its tables are its own
   pub own_instructions : instructions_of (lawful_parts d) ≡ d.instructions.now
   own_instructions = take_all d.head.instructions d.instructions.now (omega (arith, d.count))
 
   pub own_units : units_of (lawful_parts d) ≡ d.units.now
   own_units = take_all d.head.inserted d.units.now (omega (arith, d.inserted))
 
+  -- so are its origins theirs
   pub own_origins : origins_of (lawful_parts d) ≡ origins d.units.now d.instructions.now
   own_origins = ap (λ us. origins us (instructions_of (lawful_parts d))) own_units ∙ ap (origins d.units.now) own_instructions
 
@@ -32,6 +35,7 @@ module _ {U : Type 0} (d : LawfulDelta U) where
   pub own_total : total d.instructions.now ≡ d.head.target
   own_total = ap total (sym own_instructions) ∙ (passed (lawful_parts d) d.lawful).target
 
+  -- and it inserts no more than numbers of 16 bits say
   pub own_few : length d.units.now ≤ 65535
   own_few = omega (arith, d.inserted, (passed (lawful_parts d) d.lawful).small)
 
@@ -49,6 +53,7 @@ own_means d p e =
     ∙ ap (λ us. origins us (take p.head.instructions (instructions_of p))) (take-take p.head.inserted p.head.inserted p.units (omega arith))
     ∙ ap (origins (units_of p)) (take-take p.head.instructions p.head.instructions p.table (omega arith))
 
+-- and so do two of them, combined
 pub own_pair_means : {U : Type 0} (d e : LawfulDelta U) (p q : Parts U) → lawful_parts d ≡ own p → lawful_parts e ≡ own q → combined_origins (lawful_parts d) (lawful_parts e) ≡ combined_origins p q
 own_pair_means d e p q a b =
     ap (λ os. through os (origins_of (lawful_parts e))) (own_means d p a) ∙ ap (through (origins_of p)) (own_means e q b)

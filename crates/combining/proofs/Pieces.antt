@@ -48,6 +48,7 @@ pub record Next {U : Type 0} (d : LawfulDelta U) (k : ℕ) : Type 0 where
   pub long : length (piece d.units.now (get_or d.instructions.now k blank_instruction)) ≡ (get_or d.instructions.now k blank_instruction).length
   pub room : total d.instructions.now - total (take k d.instructions.now) ≡ (get_or d.instructions.now k blank_instruction).length + (total d.instructions.now - total (take (k + 1) d.instructions.now))
 
+-- all this holds of each
 pub next : {U : Type 0} (d : LawfulDelta U) (k : ℕ) → k < length d.instructions.now → Next d k
 next d k l =
     let is = d.instructions.now in
@@ -153,6 +154,7 @@ pub record Turn {U : Type 0} (d : LawfulDelta U) (place first k offset w n : ℕ
   pub part : (i : Instruction) → i ≡ cut (next_of d first k) offset n → Part d place n i
   pub further : n < w → place + w ≤ d.head.target → Located d.instructions.now (place + n) (first + (k + 1)) 0
 
+-- all this holds of each turn
 pub turn : {U : Type 0} (d : LawfulDelta U) (place first k offset w n : ℕ) → Located d.instructions.now place (first + k) offset → 0 < w → n ≡ min w ((next_of d first k).length - offset) → Turn d place first k offset w n
 turn d place first k offset w n at some e =
     let is = d.instructions.now in

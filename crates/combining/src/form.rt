@@ -42,7 +42,7 @@ pub fn is_normal<U>(delta: &Delta<U>) -> bool
 }
 
 // Writes the delta's normal form into the first entries of two output tables, and blanks into all
-// the others. A refusal writes nothing.
+// the others. A refusal writes nothing. The tables are two slices, as callers lend them.
 pub fn normalise<U: Unit>(
     delta: &Delta<U>,
     out_instructions: &mut [Instruction],

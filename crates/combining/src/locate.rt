@@ -51,7 +51,8 @@ impl<'d, 'i, 'u, U> Cursor<'d, 'i, 'u, U> {
     }
 
     // The same, searched from the first instruction where the cursor is past the place. The cursor then
-    // stands at the instruction that was found.
+    // stands at the instruction that was found. That it holds the same delta is a fact about two states, so
+    // each function that moves a cursor says it.
     pub fn locate(&mut self, place: u16) -> (usize, u16)
         requires { place < self.old.delta.now.head.target }
         ensures same_delta { self.new.delta.now ≡ self.old.delta.now }

@@ -49,7 +49,7 @@ fn write_combined<U: Unit>(output: &mut Output<U>, earlier: &LawfulDelta<U>, lat
 
 // Combines an earlier and a later delta into one, which does what the two do one after the other: its
 // normal form in the first entries of the output tables, and blanks in all the others. A refusal
-// writes nothing.
+// writes nothing. The tables are two slices, as callers lend them.
 pub fn combine<U: Unit>(
     earlier: &Delta<U>,
     later: &Delta<U>,

@@ -153,6 +153,7 @@ own_passed d p =
     (le_of_eq (sym (length-take-le i d.table p.instructions)))
     (le_of_eq (sym (length-take-le j d.units p.inserted)))
 
+-- so it is lawful
 pub own_lawful : {U : Type 0} (d : Parts U) → Lawful d → Lawful (own d)
 own_lawful d l = lawful (own d) (own_passed d (passed d l))
 

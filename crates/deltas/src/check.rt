@@ -69,7 +69,8 @@ impl<'i, 'u, U> Delta<'i, 'u, U> {
         Ok(head)
     }
 
-    // The delta over its own entries alone, if it is lawful, or its first fault.
+    // The delta over its own entries alone, if it is lawful, or its first fault. A method and no `TryFrom`: it is
+    // the check, with another answer.
     pub fn lawful(&self) -> Result<LawfulDelta<'i, 'u, U>, DeltaFault>
         ensures { MatchResult result (λ d. (checked (parts_of self.now) ≡ Ok d.head) × (lawful_parts d ≡ own (parts_of self.now))) (λ f. checked (parts_of self.now) ≡ Err f) }
     {

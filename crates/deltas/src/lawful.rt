@@ -5,7 +5,8 @@ ghost use Rattle.deltas.specs.Check.{parts, Lawful};
 use crate::delta::Head;
 use crate::instruction::Instruction;
 
-// A lawful delta over its own entries alone. Its tables are lent, so the head keeps the counts.
+// A lawful delta over its own entries alone. It keeps the delta's head whole, counts too, since that is what calls
+// answer and write.
 #[derive(Drop)]
 pub struct LawfulDelta<'i, 'u, U> {
     pub head: Head,
@@ -15,7 +16,7 @@ pub struct LawfulDelta<'i, 'u, U> {
     pub ghost count: { length instructions.now ≡ head.instructions },
     pub ghost inserted: { length units.now ≡ head.inserted },
     pub ghost lawful: { Lawful (parts head instructions.now units.now) },
-    // what the types of its head's fields say, which proofs read here
+    // what the types of its head's fields say, to specifications
     pub ghost source: { head.source ≤ 65535 },
     pub ghost target: { head.target ≤ 65535 },
 }

@@ -37,6 +37,7 @@ own_fits d l f =
     subst (λ m. AllByRecursion (Fits d.head.source m) d.table) f.inserted
     (subst (λ e. AllByRecursion (Fits d.head.source d.head.inserted) e.table) f.same (lawful_fits d l))
 
+-- a lawful delta's tables are just its own entries
 pub fresh : {U : Type 0} (d : LawfulDelta U) → Fresh (lawful_parts d)
 fresh d = record {
   same = same_parts d.head d.head _ _ _ _ refl (take_all d.head.instructions d.instructions.now (le_of_eq d.count)) (take_all d.head.inserted d.units.now (le_of_eq d.inserted));

@@ -84,5 +84,6 @@ fitting_sized : (w : ℕ) (x : Wire) → Fitting w x → Sized w x
 fitting_sized w (copy p n) f = tt
 fitting_sized w (insert n bs) f = f.1
 
+-- an insert that was read has as many bytes as its units take
 pub read_sized : (w : ℕ) (r s : WireReader) (x : Wire) → Read w r x s → Sized w x
 read_sized w r s x e = fitting_sized w x (first_fits w r.place (drop r.place r.frame.now) x e.is).0

@@ -76,6 +76,7 @@ module _ {U : Type 0} {kind width : ℕ} (c : Code U kind width) where
     pub left_is : left width h.instructions q ≡ Ok r.instructions
     left_is = at_first width h.instructions q f qf qp ∙ r.stands
 
+    -- what a reader reads of it is its instructions
     pub wires_are : wires_in width h.instructions q ≡ r.instructions
     wires_are = ap found left_is
 

@@ -15,6 +15,7 @@ use Rattle.frames.specs.Instructions.{Wire, copy, insert, extent, inserts_of}
 use Rattle.frames.specs.Reading.{then, with_fault, wires, entry, entries, inserts_in}
 use Rattle.frames.specs.Steps.{found, due, left, wires_in, Read}
 
+-- where there was no fault, these are the instructions
 found_ok : (q : Result (List Wire) FrameFault) → IsOk q → q ≡ Ok (found q)
 found_ok (Ok xs) h = refl
 found_ok (Err e) h = cc h
@@ -74,6 +75,7 @@ module _ (w n t : ℕ) (r : WireReader) (l : t < n) where
       let rest = then_ok (left w (n - (t + 1)) s) (λ xs. Ok (x ∷ xs)) ws (sym (next_left s x e) ∙ h) in
       (rest.0, cc rest.2, rest.1)
 
+  -- where the rest is whole, the next is not at fault
   pub left_well : (f : FrameFault) (ws : List Wire) → due w r ≡ Err f → left w (n - t) r ≡ Ok ws → ⊥
   left_well f ws e h =
       let z : ◌≡◌ {A = Result (List Wire) FrameFault} (Err f) (Ok ws) = sym (next_fault f e) ∙ h in
@@ -84,6 +86,7 @@ module _ (w n t : ℕ) (r : WireReader) (l : t < n) where
 none_left : (w n t : ℕ) (r : WireReader) → n ≤ t → left w (n - t) r ≡ wires w 0 r.place (drop r.place r.frame.now)
 none_left w n t r l = let e : n - t ≡ 0 = omega arith in ap (λ i. left w i r) e
 
+-- none is left of none
 ended_ok : (w p : ℕ) (bs : List ℕ) (ws : List Wire) → wires w 0 p bs ≡ Ok ws → ws ≡ []
 ended_ok w p bs ws h = grind (arith, nat_tests)
 

@@ -9,6 +9,7 @@ use Rattle.frames.specs.declared.writer.Writer.{Writer}
 use Rattle.frames.specs.Steps.{HasRoom, Wrote}
 use Rattle.frames.proofs.Filling.{sets_then}
 
+-- two runs of bytes, one after the other
 pub wrote_then : (a b c : Writer) (xs ys : List ℕ) → Wrote a xs b → Wrote b ys c → Wrote a (xs ++ ys) c
 wrote_then a b c xs ys e f = record {
   same = f.same ∙ e.same;
@@ -19,6 +20,7 @@ wrote_then a b c xs ys e f = record {
 -- One after another of some things, of which the first i are written.
 
 module _ {X : Type 0} (f : X → List ℕ) (xs : List X) (i : ℕ) (x d : X) (l : i < length xs) (e : x ≡ get_or xs i d) where
+  -- one thing more is its bytes more
   more : flat_map f (take (i + 1) xs) ≡ flat_map f (take i xs) ++ f x
   more =
       ap (flat_map f) (take_more xs i d l)
@@ -32,10 +34,12 @@ module _ {X : Type 0} (f : X → List ℕ) (xs : List X) (i : ℕ) (x d : X) (l 
       let next : length (flat_map f (take (i + 1) xs)) ≡ length (flat_map f (take i xs)) + length (f x) = ap length more ∙ length-append (flat_map f (take i xs)) (f x) in
       (next, omega (arith, ap length all, length-append (flat_map f (take (i + 1) xs)) (flat_map f (drop (i + 1) xs))))
 
+  -- there is room for the next
   pub more_room : (a b : Writer) → Wrote a (flat_map f (take i xs)) b → HasRoom a (flat_map f xs) → HasRoom b (f x)
   more_room a b w h =
       let long : length b.out.now ≡ length a.out.now = ap length w.out ∙ length-sets a.out.now a.at (flat_map f (take i xs)) in
       omega (arith, w.at, length_more, h)
 
+  -- and then it is written too
   pub wrote_more : (a b c : Writer) → Wrote a (flat_map f (take i xs)) b → Wrote b (f x) c → Wrote a (flat_map f (take (i + 1) xs)) c
   wrote_more a b c w v = subst (λ ys. Wrote a ys c) (sym more) (wrote_then a b c (flat_map f (take i xs)) (f x) w v)

@@ -1,6 +1,6 @@
 use Rattle.std.specs.Prelude.{◌≡◌, ℕ, List, [], ◌∷◌, ◌++◌, Ok}
 use Rattle.units.specs.Code.{Code}
-use Rattle.units.specs.Bytes.{byte_code}
+use Rattle.units.specs.contracts.byte.U8WireUnit.TheImpl.{ghosts}
 use Rattle.deltas.specs.declared.instruction.Instruction.{Instruction}
 use Rattle.deltas.specs.declared.instruction.Op.TheVariants.{Insert}
 use Rattle.deltas.specs.Instructions.{instruction}
@@ -44,4 +44,4 @@ inserts_abcde = parts (head 0 5 1 5) (instruction Insert 0 5 ∷ []) (97 ∷ 98 
 
 -- each is made from the other
 abbrev pub Worked : Type 0
-Worked = (parsed_frame byte_code abcde ≡ Ok inserts_abcde) × (encoded byte_code inserts_abcde ≡ abcde)
+Worked = (parsed_frame ghosts.code abcde ≡ Ok inserts_abcde) × (encoded ghosts.code inserts_abcde ≡ abcde)

@@ -25,6 +25,7 @@ pub(crate) struct Opening {
 pub(crate) fn open_frame(frame: &[u8], kind: u8) -> Result<Opening, FrameFault>
     ensures { result ≡ opened kind frame.now }
 {
+    // in two, since the body length counts what stands behind it
     let [version, b0, b1, b2, b3, body @ ..] = frame else {
         return Err(FrameFault::CutShort(0));
     };

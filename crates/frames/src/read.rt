@@ -25,6 +25,7 @@ fn read_units<U: WireUnit>(bytes: &[u8], out: &mut [U])
 {
     let mut rest = bytes;
     for unit in out {
+        // no chunks, since units may be of no bytes
         let (own, after) = rest.split_at(U::WIDTH);
         *unit = U::read(own);
         rest = after;
@@ -67,10 +68,8 @@ fn fill<U: WireUnit>(
 {
     let mut inserted = 0;
     for entry in &mut instructions[0..count] {
-        // None of those that are left is at fault.
-        let Ok(wire) = reader.next_instruction::<U>() else {
-            return;
-        };
+        // none of those that are left is at fault
+        let wire = reader.next_instruction::<U>().unwrap();
         *entry = wire.entry(inserted as u16);
         inserted = store_units(&wire, units, inserted);
     }

@@ -7,8 +7,9 @@ use crate::wire::{COPY_TAG, INSERT_TAG, WireInstruction};
 use faults::FrameFault;
 use units::WireUnit;
 
-// A frame, which is lent, and the place in it where the next instruction's tag is due. It is no iterator: a fault ends the
-// reading, and what stands behind the last instruction is looked at too.
+// A frame, which is lent, and the place in it where the next instruction's tag is due. It is no
+// iterator, since the kind of unit is the method's; and how many are due each walk is told by itself,
+// since the opening's number and the head's are of two types.
 #[derive(Clone, Copy)]
 pub(crate) struct WireReader<'a> {
     frame: &'a [u8],
@@ -57,7 +58,7 @@ impl<'a> WireReader<'a> {
         }
     }
 
-    // Reads the instruction that is due, and stands behind it; a fault leaves the reader where it was.
+    // Reads the instruction that is due, and stands behind it.
     pub(crate) fn next_instruction<U: WireUnit>(
         &mut self,
     ) -> Result<WireInstruction<'a>, FrameFault>

@@ -13,7 +13,8 @@ use deltas::{Delta, DeltaFault, Instruction, LawfulDelta, Op};
 use faults::WriteFault;
 use units::WireUnit;
 
-// How many bytes an instruction takes. That of a wire instruction counts the bytes that it holds; a table's has none.
+// How many bytes an instruction of a table takes. A wire instruction counts the bytes that it holds (`extent`), of
+// which this one has none.
 fn extent_of<U: WireUnit>(instruction: Instruction) -> usize
     ensures { result ≡ extent_of U.WIDTH instruction.op instruction.length }
 {
@@ -29,8 +30,7 @@ fn lawful_length<U: WireUnit>(delta: &LawfulDelta<U>) -> usize
     ensures length { result ≡ length (encoded U.code (lawful_parts delta.now)) }
     ensures fits { result < 5 + 2 ^ 32 }
 {
-    // Of a field a proof knows the range only where it is read.
-    let _target = delta.head.target;
+    // by a loop: that no part of the sum is too large is shown turn by turn
     let mut length = INSTRUCTIONS_PLACE;
     for instruction in delta.instructions {
         length += extent_of::<U>(*instruction);

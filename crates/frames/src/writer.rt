@@ -42,6 +42,7 @@ impl<'a> Writer<'a> {
         requires { HasRoom self.old (flat_map U.code.written units.now) }
         ensures { Wrote self.old (flat_map U.code.written units.now) self.new }
     {
+        // no chunks, since units may be of no bytes
         for unit in units {
             let end = self.at + U::WIDTH;
             unit.write(&mut self.out[self.at..end]);

@@ -71,13 +71,11 @@ impl<U: TextUnit> Command<U> {
         }))
     }
 
-    // The word behind the first delta, in three cases, none of which passes a result on.
     fn read_combine(words: &mut Words<'_>) -> Result<Command<U>, LineError> {
         let earlier = OwnedDelta::read(words)?;
-        match words.at() {
-            Some("then") => Ok(Command::Combine(earlier, OwnedDelta::read_last(words)?)),
-            Some(_) => Err(LineError::Unknown),
-            None => Err(LineError::Missing(Field::Then)),
+        match words.at().ok_or(LineError::Missing(Field::Then))? {
+            "then" => Ok(Command::Combine(earlier, OwnedDelta::read_last(words)?)),
+            _ => Err(LineError::Unknown),
         }
     }
 

@@ -67,8 +67,8 @@ impl<U: TextUnit> OwnedDelta<U> {
         })
     }
 
-    // The delta's frame, in just as many bytes, or why the delta has none. That is an answer, and no memory ends the run:
-    // with one error type callers would have to tell the two apart again.
+    // The delta's frame, in just as many bytes, or why the delta has none. That is an answer, and a lack of memory ends
+    // the run: with one error type callers would have to tell the two apart again.
     pub(crate) fn to_frame(&self, heap: Global) -> Result<Result<Vec<u8>, WriteFault>, AllocError>
         ensures { IfOk result (λ a. MatchResult a (λ f. (length_answer U.code (delta_of self.now) ≡ Ok (vec_len f)) × (f.items ≡ encoded U.code (delta_of self.now))) (λ e. with_fault Unlawful (length_answer U.code (delta_of self.now)) ≡ Err e)) }
     {

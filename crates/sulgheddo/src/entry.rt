@@ -2,8 +2,8 @@ use deltas::{Instruction, Op};
 use std::fmt;
 use units::Cashflow;
 
-// What a table holds, and how one entry is printed. Not by Display: Instruction and Cashflow are types of other crates,
-// a byte's own is decimal, and three wrappers with a trait to name them are no shorter.
+// What a table holds, and how one entry is printed. Not by Display: a byte's own is decimal, and an entry's text is this
+// program's; three wrappers with a trait to name them are no shorter.
 pub trait Entry: PartialEq {
     fn write_entry<W: fmt::Write>(&self, f: &mut fmt::Formatter<W>) -> fmt::Result;
 }
@@ -40,6 +40,10 @@ impl<T: Entry> fmt::Display for EntryText<'_, T> {
     }
 }
 
+// What stands for no entries and no units. Whoever prints them tests for it: a function over the parts would have to ask
+// for an iterator that ends, and say no less.
+pub(crate) const NONE: &str = "-";
+
 // All entries of a table, equal neighbours once. Where a run of them ends is what `chunk_by` promises: neighbours inside
 // a run are equal, and the last of one run and the first of the next are not.
 #[derive(Clone, Copy)]
@@ -48,7 +52,7 @@ pub struct Entries<'a, T>(pub &'a [T]);
 impl<T: Entry> fmt::Display for Entries<'_, T> {
     fn fmt<W: fmt::Write>(&self, f: &mut fmt::Formatter<W>) -> fmt::Result {
         if self.0.is_empty() {
-            return f.write_str("-");
+            return f.write_str(NONE);
         }
         f.write_joined(self.0.chunk_by(|x, y| x == y).map(Run), ", ")
     }

@@ -24,8 +24,8 @@ use std::iter::Skip;
 use std::process::ExitCode;
 use words::{Quoted, Words};
 
-// The run ended early, and standard error says why. An error that `main` prints would need memory for the word at fault,
-// which stands in a line that is gone by then.
+// The run ended early, and standard error says why, from where that is known: an error that `main` returns is printed
+// once more, and one that keeps just its text cuts a long word or file name.
 struct Stopped;
 
 fn main(rt: HostRuntime) -> ExitCode {

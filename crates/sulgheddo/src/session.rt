@@ -102,6 +102,7 @@ impl<U: TextUnit> Session<U> {
         Ok(())
     }
 
+    // In the steps of `combine`, with another call and another refusal, which are most of it.
     fn parse(&mut self, rt: &impl Print, frame: &[u8]) -> io::Result<()> {
         let answer = self
             .output

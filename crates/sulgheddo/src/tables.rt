@@ -111,8 +111,11 @@ fn filled<T: Copy>(heap: Global, value: T, count: usize) -> Result<Vec<T>, Alloc
 // All that the two tables hold, a line for each.
 impl<U: TextUnit> fmt::Display for OwnedTables<U> {
     fn fmt<W: fmt::Write>(&self, f: &mut fmt::Formatter<W>) -> fmt::Result {
-        let instructions = Entries(self.instructions.as_slice());
-        let units = Entries(self.units.as_slice());
-        write!(f, "  instructions {instructions}\n  units {units}")
+        write!(
+            f,
+            "  instructions {}\n  units {}",
+            Entries(self.instructions.as_slice()),
+            Entries(self.units.as_slice())
+        )
     }
 }

@@ -2,7 +2,7 @@ ghost use Rattle.std.specs.Prelude.{◌+◌, ◌*◌, ◌<◌, ◌≤◌, vec_le
 ghost use Rattle.std.specs.Option.{SomeIff};
 ghost use Rattle.std.specs.Char.{digit_value};
 
-use crate::entry::{Entry, EntryText};
+use crate::entry::{Entry, EntryText, NONE};
 use crate::line_error::{Field, LineError};
 use crate::words::number;
 use std::fmt;
@@ -65,7 +65,7 @@ fn cashflow_of(text: &str) -> Result<Cashflow, LineError> {
 pub(crate) fn read_units<U: TextUnit>(text: &str, units: &mut Vec<U>) -> Result<(), LineError>
     ensures { vec_len units.old ≤ vec_len units.new }
 {
-    if text == "-" {
+    if text == NONE {
         return Ok(());
     }
     U::read_run(text, units)
@@ -78,7 +78,7 @@ pub struct Units<'a, U>(pub &'a [U]);
 impl<U: TextUnit> fmt::Display for Units<'_, U> {
     fn fmt<W: fmt::Write>(&self, f: &mut fmt::Formatter<W>) -> fmt::Result {
         if self.0.is_empty() {
-            return f.write_str("-");
+            return f.write_str(NONE);
         }
         f.write_joined(self.0.iter().map(EntryText), U::GAP)
     }

@@ -125,8 +125,7 @@ impl fmt::Display for Quoted<'_> {
     fn fmt<W: fmt::Write>(&self, f: &mut fmt::Formatter<W>) -> fmt::Result {
         f.write_str("'")?;
         for c in self.0.chars().take(QUOTED) {
-            let c = c.escape_debug();
-            write!(f, "{c}")?;
+            write!(f, "{}", c.escape_debug())?;
         }
         let is_cut = self.0.chars().count() > QUOTED;
         f.write_str(if is_cut { "..'" } else { "'" })

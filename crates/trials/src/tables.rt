@@ -5,6 +5,7 @@ use std::process::Abort;
 use std::test::Fail;
 use units::{Layer, Refusal};
 
+// Two names, since a test reads as the list of its instructions.
 pub(crate) fn copy(from: u16, length: u16) -> Instruction {
     Instruction::new(Op::Copy, from, length)
 }
@@ -45,7 +46,7 @@ pub(crate) fn refusal(number: u8, layer: Layer, place: usize) -> Refusal {
 }
 
 // The fault of a call that writes into tables of so many entries, if it is refused. The tables must then be
-// as they were.
+// as they were. Their sizes are two numbers here and in what calls this, as each case writes them.
 pub(crate) fn fault_of<E: Drop, F: FnOnce(&mut [Instruction], &mut [u8]) -> Result<Head, E>>(
     rt: &impl Abort,
     entries: usize,
@@ -56,15 +57,14 @@ pub(crate) fn fault_of<E: Drop, F: FnOnce(&mut [Instruction], &mut [u8]) -> Resu
 {
     let mut instructions = [insert(7, 7); 8];
     let mut units = [9; 8];
-    match call(
+    let fault = call(
         &mut instructions[0..entries.min(8)],
         &mut units[0..more.min(8)],
-    ) {
-        Ok(_) => Ok(None),
-        Err(fault) => {
-            assert_eq!(rt; instructions, [insert(7, 7); 8]);
-            assert_eq!(rt; units, [9; 8]);
-            Ok(Some(fault))
-        }
+    )
+    .err();
+    if fault.is_some() {
+        assert_eq!(rt; instructions, [insert(7, 7); 8]);
+        assert_eq!(rt; units, [9; 8]);
     }
+    Ok(fault)
 }

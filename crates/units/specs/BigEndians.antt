@@ -94,7 +94,7 @@ big_endian_at i k bs h u =
 pub number_at_reads : (i k : ℕ) (bs : List ℕ) → i + k ≤ length bs → AllBelowBase 256 bs → number_at i k bs ≡ from_big_endian (reads k i bs)
 number_at_reads i k bs h u = number_at_is i k bs h u ∙ ap from_big_endian (part_reads k i bs h)
 
--- the number that the language reads from four bytes, and from eight
+-- the number that the language reads from four bytes, and from eight: one for each, since that computes at one width alone
 pub four_bytes : (bs : List ℕ) → length bs ≡ 4 → from_be_bytes w32 bs ≡ from_big_endian bs
 four_bytes bs long =
     let all = take_all 4 bs (le_of_eq long) in

@@ -2,29 +2,26 @@ ghost use Rattle.std.specs.Prelude.{◌≡◌, ◌<◌, List, length, replicate,
 
 use crate::unit::Unit;
 
-// Room for 64 units of one kind.
-pub trait Room: Drop {
-    // the kind of unit that it holds
-    type Held: Unit;
-
+// Room for 64 units of a kind.
+pub trait Room<U: Unit>: Drop {
     // the units in a room, in their order
-    ghost held: { Self → List Self.Held };
+    ghost held: { Self → List U };
 
     // A room of blanks.
     fn room() -> Self
-        ensures { held result ≡ replicate 64 Self.Held.blank };
+        ensures { held result ≡ replicate 64 U.blank };
 
     // Lends the units of a room.
-    fn room_units(&self) -> &[Self::Held]
+    fn room_units(&self) -> &[U]
         ensures { result.now ≡ held self.now };
 
     // The unit at an index of a room.
-    fn room_unit(&self, i: usize) -> Self::Held
+    fn room_unit(&self, i: usize) -> U
         requires { i < 64 }
-        ensures { result ≡ slice_index_or (held self.now) i Self.Held.blank };
+        ensures { result ≡ slice_index_or (held self.now) i U.blank };
 
     // Writes a unit at an index of a room, and leaves the others.
-    fn room_put(&mut self, i: usize, unit: Self::Held)
+    fn room_put(&mut self, i: usize, unit: U)
         requires { i < 64 }
         ensures { held self.new ≡ slice_set (held self.old) i unit };
 
@@ -35,7 +32,7 @@ pub trait Room: Drop {
 // A unit that comes with room for 64 of its kind.
 pub trait RoomUnit: Unit {
     // what holds the 64 units
-    type Room: Room<Held = Self>;
+    type Room: Room<Self>;
 }
 
 // Sixty-four units in a row. The ghost field says how many to specifications, where an array is a list
@@ -46,9 +43,7 @@ pub struct Slots<U> {
     ghost full: { length units ≡ 64 },
 }
 
-impl<U: Unit> Room for Slots<U> {
-    type Held = U;
-
+impl<U: Unit> Room<U> for Slots<U> {
     ghost held = { λ r. r.units };
 
     ghost full = { λ r. r.full };

@@ -19,14 +19,14 @@ pub trait WireUnit: Unit {
     // how units are written as bytes, and the unit that bytes stand for
     ghost code: { Code Self KIND WIDTH };
 
-    // The number of the kind.
+    // The number of the kind, for callers that ask by a call.
     final fn kind_number() -> u8
         ensures { result ≡ KIND }
     {
         Self::KIND
     }
 
-    // The width.
+    // The width, for callers that ask by a call.
     final fn byte_width() -> usize
         ensures { result ≡ WIDTH }
     {

@@ -1,10 +1,15 @@
-use Rattle.std.proofs.Common.{◌-◌, take, refl, sym, ap, ◌∙◌, arith}
+use Rattle.std.proofs.Common.{◌≡◌, ℕ, ◌-◌, take, refl, sym, ap, ◌∙◌, Ok, Err, Result, arith}
+use Rattle.std.specs.Prelude.{IsOk}
+use Rattle.std.specs.Result.{MatchResult}
 use native.Mathlib.Nat.{sub-zero}
 use Rattle.std.proofs.lemmas.List.{length-take-le}
 use Rattle.std.proofs.lemmas.List.Edits.{sets}
 use Rattle.frames.specs.Instructions.{shown}
 use Rattle.frames.specs.Reading.{entries, inserts_in}
-use Rattle.frames.specs.Steps.{wires_in}
+use Rattle.faults.specs.declared.frame.FrameFault.{FrameFault}
+use Rattle.frames.specs.declared.reader.WireReader.{WireReader}
+use Rattle.frames.specs.declared.wire.WireInstruction.{WireInstruction}
+use Rattle.frames.specs.Steps.{wires_in, due, Read}
 use Rattle.frames.proofs.Tables.{length_entries}
 use Rattle.frames.proofs.Wires.{wires_fit}
 use Rattle.frames.proofs.Walks.{left_ok, left_again, left_well, left_none}
@@ -23,21 +28,30 @@ loop-entry-init g c =
       omega arith,
     )
 
-pub returns-in_default : goal.returns-in_default
-returns-in_default g c = absurd (left_well _ c.args.count c.loop-entry.entry-index c.loop-entry.reader (omega arith) _ c.loop-entry.invariant.0 c.in_default.ensures c.loop-entry.invariant.1)
+-- reading answers an instruction where none that is due is at fault
+no_fault : (w : ℕ) (before after : WireReader) (q : Result WireInstruction FrameFault) → MatchResult q (λ x. Read w before (shown x) after) (λ e. due w before ≡ Err e) → ((e : FrameFault) → due w before ≡ Err e → ⊥) → IsOk q
+no_fault w before after (Ok x) m none = refl
+no_fault w before after (Err e) m none = absurd (none e m)
+
+pub unwrap-wire-requires : goal.unwrap-wire-requires
+unwrap-wire-requires g c =
+    no_fault g.U.WireUnit.WIDTH c.loop-entry.reader _ c.next_instruction.result c.next_instruction.ensures
+    (λ e wrong. left_well _ c.args.count c.loop-entry.entry-index c.loop-entry.reader (omega arith) e c.loop-entry.invariant.0 wrong c.loop-entry.invariant.1)
 
 pub store_units-inserted-requires : goal.store_units-inserted-requires
 store_units-inserted-requires g c =
-    let n = left_again _ c.args.count c.loop-entry.entry-index c.loop-entry.reader (omega arith) _ (shown c.in-Ok.wire) c.loop-entry.invariant.0 c.in-Ok.ensures c.loop-entry.invariant.1 in
+    let read = rw c.unwrap-wire.ensures at c.next_instruction.ensures in
+    let n = left_again _ c.args.count c.loop-entry.entry-index c.loop-entry.reader (omega arith) _ (shown c.unwrap-wire.result) c.loop-entry.invariant.0 read c.loop-entry.invariant.1 in
     record {
-      sized = read_sized g.U.WireUnit.WIDTH c.loop-entry.reader _ (shown c.in-Ok.wire) c.in-Ok.ensures;
+      sized = read_sized g.U.WireUnit.WIDTH c.loop-entry.reader _ (shown c.unwrap-wire.result) read;
       room = omega (arith, ap inserts_in n.1, c.loop-entry.invariant.4, c.requires.units);
     }
 
 pub loop-entry-preserved : goal.loop-entry-preserved
 loop-entry-preserved g c =
-    let x = shown c.in-Ok.wire in
-    let n = left_again _ c.args.count c.loop-entry.entry-index c.loop-entry.reader (omega arith) _ x c.loop-entry.invariant.0 c.in-Ok.ensures c.loop-entry.invariant.1 in
+    let read = rw c.unwrap-wire.ensures at c.next_instruction.ensures in
+    let x = shown c.unwrap-wire.result in
+    let n = left_again _ c.args.count c.loop-entry.entry-index c.loop-entry.reader (omega arith) _ x c.loop-entry.invariant.0 read c.loop-entry.invariant.1 in
     rw c.store_units-inserted.ensures.end (
       n.0,
       n.2,

@@ -1,4 +1,4 @@
-use Rattle.std.proofs.Common.{◌≤◌, arith}
+use Rattle.std.proofs.Common.{arith}
 use Rattle.deltas.specs.LawfulDeltas.{lawful_parts}
 use Rattle.frames.proofs.RoundTrips.{frame_fits}
 use Rattle.frames.proofs.Emitting.{fresh, length_turn, length_last}
@@ -7,9 +7,8 @@ use Rattle.frames.proofs.write.lawful_length.Goals as goal
 pub overflow_add-length : goal.overflow_add-length
 overflow_add-length g c =
     let d = c.args.delta.now in
-    let b : d.head.target ≤ 65535 = grind arith in
     let t = length_turn g.U.WireUnit.code g.met.U.WireUnit.laws (lawful_parts d) c.loop-instruction.length c.extent_of-length.result c.loop-instruction.instruction-index d.lawful (fresh d) (omega arith) c.extent_of-length.ensures c.loop-instruction.invariant in
-    let f = frame_fits g.U.WireUnit.code g.met.U.WireUnit.laws (lawful_parts d) d.lawful b in
+    let f = frame_fits g.U.WireUnit.code g.met.U.WireUnit.laws (lawful_parts d) d.lawful d.target in
     record { fits = omega arith }
 
 pub loop-instruction-preserved : goal.loop-instruction-preserved
@@ -20,7 +19,6 @@ loop-instruction-preserved g c =
 pub returns : goal.returns
 returns g c =
     let d = c.args.delta.now in
-    let b : d.head.target ≤ 65535 = grind arith in
     let e = length_last g.U.WireUnit.code g.met.U.WireUnit.laws (lawful_parts d) c.loop-instruction.length c.loop-instruction.instruction-index (fresh d) (omega arith) c.loop-instruction.invariant in
-    let f = frame_fits g.U.WireUnit.code g.met.U.WireUnit.laws (lawful_parts d) d.lawful b in
+    let f = frame_fits g.U.WireUnit.code g.met.U.WireUnit.laws (lawful_parts d) d.lawful d.target in
     record { length = e; fits = omega arith }
