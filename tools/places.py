@@ -8,6 +8,7 @@ A row is a place to look at, and not a verdict. docs/DESIGN-PASS.md says what be
 """
 import collections
 import itertools
+import os
 import re
 import subprocess
 import sys
@@ -23,6 +24,7 @@ if commit:
     names = git("-C", top, "ls-tree", "-r", "--name-only", commit).splitlines()
 else:
     names = git("-C", top, "ls-files", "--cached", "--others", "--exclude-standard").splitlines()
+    names = [n for n in names if os.path.exists(f"{top}/{n}")]
 
 
 def text(name):

@@ -2,7 +2,7 @@
 use Rattle.std.proofs.Common.{◌≡◌, ℕ, ◌+◌, ◌-◌, ◌<◌, ◌≤◌, false, List, length, get_or, take, drop, Ok, Err, sym, ap, ◌∙◌, arith}
 use native.Mathlib.Nat.{sub-zero}
 use Rattle.std.proofs.lemmas.Bool.Decides.{nat_tests}
-use Rattle.std.proofs.lemmas.List.{drop_more, at_drop_all, length-take}
+use Rattle.std.proofs.lemmas.List.{drop_more, at_drop_all}
 use Rattle.deltas.specs.declared.instruction.Instruction.{Instruction}
 use Rattle.deltas.specs.declared.delta.Head.{Head}
 use Rattle.deltas.specs.declared.fault.DeltaFault.{DeltaFault}
@@ -39,13 +39,3 @@ walked_stops h k t n f xs l e = ap (walked h k t n) (drop_more xs k blank_instru
 
 pub walked_ends : (h : Head) (k t n : ℕ) (xs : List Instruction) → length xs ≤ k → walked h k t n (drop k xs) ≡ totalled h k t n
 walked_ends h k t n xs l = at_drop_all (walked h k t n) xs k l
-
--- after the last turn, the answer is what the totals give
-pub checked_ends : {U : Type 0} (d : Parts U) (k t n : ℕ) → d.head.instructions ≤ length d.table → d.head.instructions ≤ 65535 → d.head.inserted ≤ length d.units → d.head.inserted ≤ 65535 → walked d.head k t n (drop k (take (d.head.instructions - 0) d.table)) ≡ walked d.head 0 0 0 (take (d.head.instructions - 0) d.table) → length (take (d.head.instructions - 0) d.table) ≤ k → k ≤ length (take (d.head.instructions - 0) d.table) → checked d ≡ totalled d.head d.head.instructions t n
-checked_ends d k t n a b p q inv low high =
-    let m : k ≡ d.head.instructions = omega (arith, length-take (d.head.instructions - 0) d.table) in
-    checked_walks d a b p q
-    ∙ ap (walked d.head 0 0 0) (sym (front_is d.head.instructions d.table))
-    ∙ sym inv
-    ∙ walked_ends d.head k t n (take (d.head.instructions - 0) d.table) low
-    ∙ ap (λ j. totalled d.head j t n) m

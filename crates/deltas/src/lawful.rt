@@ -5,8 +5,8 @@ ghost use Rattle.deltas.specs.Check.{parts, Lawful};
 use crate::delta::Head;
 use crate::instruction::Instruction;
 
-// A lawful delta over its own entries alone. It keeps the delta's head whole, counts too, since that is what calls
-// answer and write.
+// A lawful delta over its own entries alone. It keeps the delta's head whole, though its counts repeat the lengths of
+// the slices: the check answers that head, and a frame is written from it.
 #[derive(Drop)]
 pub struct LawfulDelta<'i, 'u, U> {
     pub head: Head,

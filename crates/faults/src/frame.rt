@@ -35,8 +35,9 @@ pub enum ParseFault {
     Delta(DeltaFault),
 }
 
-// Why a frame is not read into tables. This and `WriteFault` stay two enums of their own: as one enum over the
-// fault inside, its refusal would be promised by a relation, where each of them equates it.
+// Why a frame is not read into tables. This and `WriteFault` stay two enums: one that is generic in the
+// fault inside could only promise that its refusal is related to that fault's, and each of these
+// promises the very refusal.
 #[derive(Clone, Copy, PartialEq, Eq, Debug)]
 pub enum ReadFault {
     // it is not the frame of a lawful delta

@@ -40,7 +40,7 @@ fn check_instructions<U: WireUnit>(
     let count = opening.instructions as usize;
     let mut total = 0;
     let mut before = 0;
-    // over a count too, and the index is a fault's place
+    // over a count too, and the index is a fault's place; no frame's fault is left here, and `?` says it in less
     for index in 0..count {
         let wire = reader.next_instruction::<U>()?;
         let next = wire.entry(before as u16);

@@ -25,7 +25,7 @@ pub(crate) struct Opening {
 pub(crate) fn open_frame(frame: &[u8], kind: u8) -> Result<Opening, FrameFault>
     ensures { result ≡ opened kind frame.now }
 {
-    // in two, since the body length counts what stands behind it
+    // in two: by the rule of this place, version and body length stand apart from the rest
     let [version, b0, b1, b2, b3, body @ ..] = frame else {
         return Err(FrameFault::CutShort(0));
     };

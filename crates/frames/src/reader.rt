@@ -7,9 +7,9 @@ use crate::wire::{COPY_TAG, INSERT_TAG, WireInstruction};
 use faults::FrameFault;
 use units::WireUnit;
 
-// A frame, which is lent, and the place in it where the next instruction's tag is due. It is no
-// iterator, since the kind of unit is the method's; and how many are due each walk is told by itself,
-// since the opening's number and the head's are of two types.
+// A frame, and the place in it where the next instruction's tag is due: a number, since a fault names
+// it. It does not hold how many are due, on which no reading depends, and it is no iterator: each walk
+// goes over a count, and one of them looks at what stands behind the last.
 #[derive(Clone, Copy)]
 pub(crate) struct WireReader<'a> {
     frame: &'a [u8],

@@ -12,7 +12,7 @@ use std::alloc::{AllocError, Global};
 use units::Cashflow;
 
 // A session with units of the kind that the list named last. `kept` and `carry_out` each match on it: one place for both
-// would be a dyn value that is handed out, or a macro that is longer than a match.
+// would be a dyn value that is handed out, which may not be, or a macro that is longer than a match.
 #[derive(Drop)]
 pub enum Client {
     Bytes(Session<u8>),

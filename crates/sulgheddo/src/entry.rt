@@ -40,12 +40,13 @@ impl<T: Entry> fmt::Display for EntryText<'_, T> {
     }
 }
 
-// What stands for no entries and no units. Whoever prints them tests for it: a function over the parts would have to ask
-// for an iterator that ends, and say no less.
+// Stands for no entries and no units. `Entries` and `Units` each test for it: one function for both would take an
+// iterator, have to require that it ends, and be no shorter.
 pub(crate) const NONE: &str = "-";
 
-// All entries of a table, equal neighbours once. Where a run of them ends is what `chunk_by` promises: neighbours inside
-// a run are equal, and the last of one run and the first of the next are not.
+// All entries of a table, equal neighbours once. Where a run of them ends is what `chunk_by` promises for an `==` that is
+// a function, as that of each entry here is: neighbours inside a run are equal, and the last of one run and the first of
+// the next are not.
 #[derive(Clone, Copy)]
 pub struct Entries<'a, T>(pub &'a [T]);
 

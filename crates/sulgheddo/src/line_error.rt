@@ -53,7 +53,7 @@ pub enum LineError {
     // the line could not be read
     #[error("cannot be read: {0}")]
     Unread(io::Error),
-    // an answer could not be printed: the `?` after printing. What fails where a line is read does not come this way.
+    // an answer could not be printed: `?` after printing makes this, and a line that can't be read is made `Unread` by hand
     #[error("cannot be printed: {0}")]
     Unprinted(#[from] io::Error),
     // there is no memory left

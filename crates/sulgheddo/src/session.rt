@@ -102,7 +102,8 @@ impl<U: TextUnit> Session<U> {
         Ok(())
     }
 
-    // In the steps of `combine`, with another call and another refusal, which are most of it.
+    // In the steps of `combine`: a function for what is the same (show the head's delta, count the answer) would be longer
+    // than the two lines that it saves.
     fn parse(&mut self, rt: &impl Print, frame: &[u8]) -> io::Result<()> {
         let answer = self
             .output

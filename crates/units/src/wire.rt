@@ -43,7 +43,7 @@ pub trait WireUnit: Unit {
         requires { length bytes.now ≡ WIDTH }
         ensures { result ≡ code.parsed bytes.now };
 
-    // What is written is read back, and what is read is written back, in so many bytes that every frame has a
+    // What is written is read back, and what is read is written back, in so few bytes that every frame has a
     // length that four bytes can say.
     ghost laws: { CodeLaws code };
 }

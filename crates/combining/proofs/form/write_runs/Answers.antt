@@ -1,8 +1,6 @@
-use Rattle.std.proofs.Common.{sym, ap, ◌∙◌, subst, arith}
-use Rattle.std.proofs.lemmas.List.{take_all}
-use Rattle.deltas.specs.Origins.{origins}
+use Rattle.std.proofs.Common.{sym, subst, arith}
 use Rattle.combining.specs.Steps.{Appended}
-use Rattle.combining.proofs.Own.{own_origins, own_total}
+use Rattle.combining.proofs.Own.{own_total}
 use Rattle.combining.proofs.Pieces.{next}
 use Rattle.combining.proofs.Through.{origins_more}
 use Rattle.combining.proofs.Writes.{appended_none, appended_then, space_left, space_less}
@@ -26,9 +24,3 @@ loop-next-preserved g c =
       space = space_left _ _ (omega (arith, i.long, i.room)) c.append.ensures c.loop-next.invariant.space;
       appended = subst (λ os. Appended os c.args.output.now c.append.new.self) (sym (origins_more d.units.now d.instructions.now k (omega arith))) (appended_then c.loop-next.invariant.appended c.append.ensures);
     }
-
-pub returns : goal.returns
-returns g c =
-    let d = c.args.delta.now in
-    subst (λ os. Appended os c.args.output.now c.loop-next.output)
-    (ap (origins d.units.now) (take_all c.loop-next.next-index d.instructions.now (omega arith)) ∙ sym (own_origins d)) c.loop-next.invariant.appended

@@ -1,11 +1,11 @@
 use Rattle.std.proofs.Common.{get_or, sym, ap, ◌∙◌, subst, le_of_eq, arith}
-use Rattle.std.proofs.lemmas.List.{take_all, length-map}
+use Rattle.std.proofs.lemmas.List.{length-map}
 use Rattle.deltas.specs.Instructions.{blank_instruction}
 use Rattle.deltas.specs.LawfulDeltas.{lawful_parts}
-use Rattle.deltas.specs.Origins.{piece, origins, origins_of}
+use Rattle.deltas.specs.Origins.{piece, origins_of}
 use Rattle.combining.specs.Combine.{origin_through, through}
 use Rattle.combining.specs.Steps.{Appended}
-use Rattle.combining.proofs.Own.{own_origins, own_total}
+use Rattle.combining.proofs.Own.{own_total}
 use Rattle.combining.proofs.Pieces.{next}
 use Rattle.combining.proofs.Through.{through_more}
 use Rattle.combining.proofs.Writes.{appended_none, appended_then, space_left, space_less}
@@ -38,10 +38,3 @@ loop-next-preserved g c =
       space = space_left _ _ (omega (arith, length-map given (origin_through es), i.long, i.room)) done c.loop-next.invariant.space;
       appended = subst (λ os. Appended os c.args.output.now c.combine_instruction.new.output) (sym (through_more es later.units.now later.instructions.now k (omega arith))) (appended_then c.loop-next.invariant.appended done);
     }
-
-pub returns : goal.returns
-returns g c =
-    let es = origins_of (lawful_parts c.args.earlier.now) in
-    let later = c.args.later.now in
-    subst (λ os. Appended (through es os) c.args.output.now c.loop-next.output)
-    (ap (origins later.units.now) (take_all c.loop-next.next-index later.instructions.now (omega arith)) ∙ sym (own_origins later)) c.loop-next.invariant.appended
