@@ -21,7 +21,7 @@ pub(crate) struct Cursor<'d, 'i, 'u, U> {
 
 impl<'d, 'i, 'u, U> Cursor<'d, 'i, 'u, U> {
     // A cursor that stands at the first place.
-    pub fn new(delta: &'d LawfulDelta<'i, 'u, U>) -> Cursor<'d, 'i, 'u, U>
+    pub(crate) fn new(delta: &'d LawfulDelta<'i, 'u, U>) -> Cursor<'d, 'i, 'u, U>
         ensures same_delta { result.delta.now ≡ delta.now }
         ensures start { result.place ≡ 0 }
     {
@@ -53,7 +53,7 @@ impl<'d, 'i, 'u, U> Cursor<'d, 'i, 'u, U> {
     // The same, searched from the first instruction where the cursor is past the place. The cursor then
     // stands at the instruction that was found. That it holds the same delta is a fact about two states, so
     // each function that moves a cursor says it.
-    pub fn locate(&mut self, place: u16) -> (usize, u16)
+    pub(crate) fn locate(&mut self, place: u16) -> (usize, u16)
         requires { place < self.old.delta.now.head.target }
         ensures same_delta { self.new.delta.now ≡ self.old.delta.now }
         ensures located { Located self.old.delta.now.instructions.now place result.0 result.1 }

@@ -41,7 +41,7 @@ impl<'i, 'u, U: Unit> Output<'i, 'u, U> {
     ghost use Rattle.combining.specs.Steps.{Space, Appended, written_instructions, written_units};
 
     // Two tables of which nothing is written.
-    pub fn new(instructions: &'i mut [Instruction], units: &'u mut [U]) -> Output<'i, 'u, U>
+    pub(crate) fn new(instructions: &'i mut [Instruction], units: &'u mut [U]) -> Output<'i, 'u, U>
         ensures instructions { result.instructions ≡ instructions.entry }
         ensures units { result.units ≡ units.entry }
         ensures count { result.count ≡ 0 }
@@ -56,7 +56,7 @@ impl<'i, 'u, U: Unit> Output<'i, 'u, U> {
     }
 
     // Whether one of the tables has fewer entries than this.
-    pub fn is_short(&self, need: u16) -> bool
+    pub(crate) fn is_short(&self, need: u16) -> bool
         ensures { result ≡ short need (length self.now.instructions.now) (length self.now.units.now) }
     {
         let need = need as usize;
@@ -64,7 +64,7 @@ impl<'i, 'u, U: Unit> Output<'i, 'u, U> {
     }
 
     // Writes what one instruction gives behind what is written: `source` has the units that it inserts.
-    pub fn append(&mut self, source: &[U], part: Instruction)
+    pub(crate) fn append(&mut self, source: &[U], part: Instruction)
         requires fits { Fits 65535 (length source.now) part }
         requires space { Space self.old part.length }
         ensures { Appended (piece source.now part) self.old self.new }
@@ -87,7 +87,7 @@ impl<'i, 'u, U: Unit> Output<'i, 'u, U> {
     }
 
     // Blanks what is not written, and answers the head of the delta that is.
-    pub fn finish(self, source: u16, target: u16) -> Head
+    pub(crate) fn finish(self, source: u16, target: u16) -> Head
         ensures head { result ≡ head source target self.entry.count self.entry.inserted }
         ensures instructions { self.exit.0.now ≡ written_instructions self.entry ++ replicate (length self.entry.instructions.now - self.entry.count) blank_instruction }
         ensures units { self.exit.1.0.now ≡ written_units self.entry ++ replicate (length self.entry.units.now - self.entry.inserted) U.blank }
