@@ -20,7 +20,7 @@ pub long_enough : (n i u : ℕ) → short n i u ≡ false → (n ≤ i) × (n �
 long_enough n i u e = ((let a : n ≤ i = grind (arith, nat_tests) in a), (let b : n ≤ u = grind (arith, nat_tests) in b))
 
 -- the entries that were written, and blanks behind them to the end of a table of i entries
-filled : {X : Type 0} (i : ℕ) (entries after : List X) (n : ℕ) (b : X) → take n after ≡ entries → n ≡ length entries → length after ≡ i → take n after ++ replicate (length after - n) b ≡ entries ++ replicate (i - length entries) b
+pub filled : {X : Type 0} (i : ℕ) (entries after : List X) (n : ℕ) (b : X) → take n after ≡ entries → n ≡ length entries → length after ≡ i → take n after ++ replicate (length after - n) b ≡ entries ++ replicate (i - length entries) b
 filled i entries after n b e k l =
     let m : length after - n ≡ i - length entries = omega arith in
     ap (λ xs. xs ++ replicate (length after - n) b) e ∙ ap (λ j. entries ++ replicate j b) m

@@ -112,7 +112,7 @@ module _ {U : Type 0} {kind width : ℕ} (c : Code U kind width) (k : CodeLaws c
       ∙ ap (parsed_frame c) (take_at (encoded c d) rest n (sym e))
       ∙ delta_again c k d l s t
 
--- What other crates need of the answers.
+-- What the answers of frame_length and write_frame say to a caller.
 
 -- what the answer of frame_length says
 length_from : {U : Type 0} {kind width : ℕ} (c : Code U kind width) (d : Parts U) (n : ℕ) (q : Result Head DeltaFault) → checked d ≡ q → Ok n ≡ then q (λ _. Ok (length (encoded c d))) → Lawful d × (n ≡ length (encoded c d))

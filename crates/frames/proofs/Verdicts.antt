@@ -21,7 +21,7 @@ use Rattle.frames.proofs.Walks.{at_first}
 
 module _ {U : Type 0} {kind width : ℕ} (c : Code U kind width) where
   -- where its instructions insert no more than 65,535 units, its check is the walk
-  checked_in : (o : Opening) (xs : List Wire) → length xs ≤ 65535 → inserts_in xs ≤ 65535 → checked (delta_in c o xs) ≡ walked (head o.source o.target (length xs) (inserts_in xs)) 0 0 0 (entries 0 xs)
+  pub checked_in : (o : Opening) (xs : List Wire) → length xs ≤ 65535 → inserts_in xs ≤ 65535 → checked (delta_in c o xs) ≡ walked (head o.source o.target (length xs) (inserts_in xs)) 0 0 0 (entries 0 xs)
   checked_in o xs l m =
       let n = length_entries 0 xs in
       let u = length_inserted c xs in
@@ -37,17 +37,17 @@ head_from d (Ok h) e =
     ap Ok t
 head_from d (Err f) e = refl
 
-head_lawful : {U : Type 0} (d : Parts U) → then (if_lawful d) (λ e. Ok e.head) ≡ with_fault Delta (checked d)
+pub head_lawful : {U : Type 0} (d : Parts U) → then (if_lawful d) (λ e. Ok e.head) ≡ with_fault Delta (checked d)
 head_lawful d = head_from d (checked d) refl
 
 -- The answer, once the frame is opened and its instructions are found.
 
-found_is : (q : Result (List Wire) FrameFault) (n : ℕ) → Ok n ≡ then q (λ xs. Ok (inserts_in xs)) → (q ≡ Ok (found q)) × (n ≡ inserts_in (found q))
+pub found_is : (q : Result (List Wire) FrameFault) (n : ℕ) → Ok n ≡ then q (λ xs. Ok (inserts_in xs)) → (q ≡ Ok (found q)) × (n ≡ inserts_in (found q))
 found_is (Ok xs) n e = (refl, cc)
 found_is (Err f) n e = let z : ◌≡◌ {A = ℕ} 0 1 = cc in absurd (omega arith)
 
 module _ {U : Type 0} {kind width : ℕ} (c : Code U kind width) where
-  answer_found : (f : List ℕ) (o : Opening) (xs : List Wire) → opened kind f ≡ Ok o → wires width o.instructions 12 (drop 12 f) ≡ Ok xs → check_answer c f ≡ with_fault Delta (checked (delta_in c o xs))
+  pub answer_found : (f : List ℕ) (o : Opening) (xs : List Wire) → opened kind f ≡ Ok o → wires width o.instructions 12 (drop 12 f) ≡ Ok xs → check_answer c f ≡ with_fault Delta (checked (delta_in c o xs))
   answer_found f o xs p q =
       let u : unpacked c f ≡ Ok (delta_in c o xs) = rw (p, q) refl in
       ap (λ r. then (then (with_fault Frame r) if_lawful) (λ d. Ok d.head)) u ∙ head_lawful (delta_in c o xs)

@@ -1,3 +1,4 @@
 pub mod Clients
 pub mod Lines
+pub mod Runs
 pub mod Tables

@@ -1,10 +1,14 @@
+ghost use Rattle.std.specs.Prelude.{◌≡◌, length, drop, MatchOption};
+ghost use Rattle.std.specs.Iterator.{at_most};
+ghost use Rattle.sulgheddo.specs.Runs.{Front};
+
 use deltas::{Instruction, Op};
 use std::fmt;
 use units::Cashflow;
 
 // What a table holds, and how one entry is printed. Not by Display: a byte's own is decimal, and an entry's text is this
 // program's; three wrappers with a trait to name them are no shorter.
-pub trait Entry: PartialEq {
+pub trait Entry: Copy + PartialEq {
     fn write_entry<W: fmt::Write>(&self, f: &mut fmt::Formatter<W>) -> fmt::Result;
 }
 
@@ -44,9 +48,7 @@ impl<T: Entry> fmt::Display for EntryText<'_, T> {
 // iterator, have to require that it ends, and be no shorter.
 pub(crate) const NONE: &str = "-";
 
-// All entries of a table, equal neighbours once. Where a run of them ends is what `chunk_by` promises for an `==` that is
-// a function, as that of each entry here is: neighbours inside a run are equal, and the last of one run and the first of
-// the next are not.
+// All entries of a table, equal neighbours once.
 #[derive(Clone, Copy)]
 pub struct Entries<'a, T>(pub &'a [T]);
 
@@ -55,22 +57,47 @@ impl<T: Entry> fmt::Display for Entries<'_, T> {
         if self.0.is_empty() {
             return f.write_str(NONE);
         }
-        f.write_joined(self.0.chunk_by(|x, y| x == y).map(Run), ", ")
+        f.write_joined(Runs { rest: self.0 }, ", ")
     }
 }
 
 // Equal neighbours: the entry, and how often it stands there.
 #[derive(Clone, Copy)]
-struct Run<'a, T>(&'a [T]);
+struct Run<T> {
+    entry: T,
+    count: usize,
+}
 
-impl<T: Entry> fmt::Display for Run<'_, T> {
+impl<T: Entry> fmt::Display for Run<T> {
     fn fmt<W: fmt::Write>(&self, f: &mut fmt::Formatter<W>) -> fmt::Result {
-        if let Some(entry) = self.0.first() {
-            entry.write_entry(f)?;
-        }
-        if self.0.len() > 1 {
-            write!(f, " x{}", self.0.len())?;
+        self.entry.write_entry(f)?;
+        if self.count > 1 {
+            write!(f, " x{}", self.count)?;
         }
         Ok(())
+    }
+}
+
+// The runs of a table, from its front. The other entries of a run are compared with a copy of its first, so that the
+// first is read once, and not again at each of them.
+#[derive(Clone, Copy)]
+struct Runs<'a, T> {
+    rest: &'a [T],
+}
+
+impl<T: Entry> Iterator for Runs<'_, T> {
+    type Item = Run<T>;
+
+    ghost remaining = { λ s. at_most (length s.rest.now) };
+
+    ghost next_gives = { λ s r t. MatchOption r (length s.rest.now ≡ 0) (λ run. Front (λ x' y' r'. r' ≡ T.PartialEq.eq x' y') s.rest.now run.entry run.count × (t.rest.now ≡ drop run.count s.rest.now)) };
+
+    fn next(&mut self) -> Option<Run<T>> {
+        let (first, others) = self.rest.split_first()?;
+        let entry = *first;
+        let end = others.iter().position(|other| *other != entry);
+        let count = end.map_or(self.rest.len(), |end| end + 1);
+        self.rest = &self.rest[count..];
+        Some(Run { entry, count })
     }
 }

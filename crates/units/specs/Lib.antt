@@ -1,6 +1,5 @@
 pub mod Code
 pub mod BigEndian
-pub mod Bytes
 pub mod Cashflows
 pub mod RefusalText
 pub mod Runs

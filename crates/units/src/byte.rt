@@ -1,4 +1,7 @@
-ghost use Rattle.units.specs.Bytes.{byte_code, byte_laws};
+ghost use Rattle.std.specs.Prelude.{[], ◌∷◌, slice_index};
+ghost use Rattle.std.proofs.Common.{sym, ◌∙◌, rules};
+ghost use Rattle.std.proofs.lemmas.List.{set-get_or};
+ghost use Rattle.units.specs.Runs.{set_only};
 
 use crate::room::{RoomUnit, Slots};
 use crate::unit::Unit;
@@ -27,9 +30,9 @@ impl WireUnit for u8 {
 
     ghost WIDTH = { 1 };
 
-    ghost code = { byte_code };
+    ghost code = { record { written = λ b. b ∷ []; parsed = λ bs. slice_index bs 0 } };
 
-    ghost laws = { byte_laws };
+    ghost laws = { record { length_written = Prim.search rules; parsed_written = Prim.search rules; written_parsed = λ bs long bytes. sym (set_only bs (slice_index bs 0) long) ∙ set-get_or bs 0 0; frame_fits = Prim.search rules } };
 
     fn write(self, out: &mut [u8]) {
         out[0] = self;

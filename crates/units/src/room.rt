@@ -7,6 +7,9 @@ pub trait Room<U: Unit>: Drop {
     // the units in a room, in their order
     ghost held: { Self → List U };
 
+    // a proof that a room always holds 64 units: above the functions, so that clauses can cite it
+    ghost full: { (r : Self) → length (held r) ≡ 64 };
+
     // A room of blanks.
     fn room() -> Self
         ensures { held result ≡ replicate 64 U.blank };
@@ -24,9 +27,6 @@ pub trait Room<U: Unit>: Drop {
     fn room_put(&mut self, i: usize, unit: U)
         requires { i < 64 }
         ensures { held self.new ≡ slice_set (held self.old) i unit };
-
-    // A room always holds 64 units.
-    ghost full: { (r : Self) → length (held r) ≡ 64 };
 }
 
 // A unit that comes with room for 64 of its kind.

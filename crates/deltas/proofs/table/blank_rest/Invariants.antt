@@ -1,6 +1,10 @@
-use Rattle.std.proofs.Common.{◌≡◌, ◌++◌, replicate, drop}
+use Rattle.std.proofs.Common.{◌≡◌, ◌-◌, ◌≤◌, length, replicate}
+use lib.Seq.{paste}
 use Rattle.deltas.proofs.table.blank_rest.Given as goal
 
--- as many blanks as there were turns, and what there was behind them
-abbrev pub invariant-loop-entry : goal.invariant-loop-entry
-invariant-loop-entry g l = l.entry-items ≡ replicate l.entry-index l.blank ++ drop l.entry-index l.initial.entry-items
+-- blanks stand behind the first entries, as many as there were turns
+abbrev pub invariant-loop-i : goal.invariant-loop-i
+invariant-loop-i g l =
+    (l.table ≡ paste l.initial.table l.count (replicate (l.i - l.count) l.blank) (l.i - l.count))
+    × (l.count ≤ l.i)
+    × (l.i - l.count ≤ length l.initial.table - l.count)
