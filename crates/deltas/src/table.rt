@@ -2,7 +2,7 @@
 ghost use Rattle.std.specs.Prelude.{◌≡◌, ◌-◌, ◌++◌, length, take, replicate};
 
 // Blanks every entry of a table past the first `count`. By a loop over places: the library's `fill` asks for more than
-// copying, and a loop over the part behind takes several times as long where the caller's entries are small structs.
+// copying, and a loop over the part behind can take several times as long, as it does for instructions.
 pub fn blank_rest<T: Copy>(table: &mut [T], count: usize, blank: T)
     ensures { table.new ≡ take count table.old ++ replicate (length table.old - count) blank }
 {
