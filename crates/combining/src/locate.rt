@@ -34,8 +34,8 @@ impl<'d, 'i, 'u, U> Cursor<'d, 'i, 'u, U> {
 
     // The index of the instruction that gives a place, and the place's offset inside it, searched from
     // the cursor on. They are a pair: a struct with the fact in it would hold the delta once more. The search
-    // goes ahead one by one, since instructions hold lengths and not places. As a part of its caller's code
-    // each step takes one instruction more, and half as much time again where they come to lie badly.
+    // goes ahead one by one, since instructions hold lengths and not places. It is kept apart, since as a part
+    // of its caller's machine code each step was longer, and took up to half as much time again.
     #[inline(never)]
     fn search(&self, place: u16) -> (usize, u16)
         requires inside { place < self.now.delta.now.head.target }
